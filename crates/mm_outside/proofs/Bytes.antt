@@ -1,15 +1,19 @@
 -- Lemmas on bytes that are known, and that move in several steps.
 use Rattle.std.proofs.Common.{◌≡◌, ◌≤◌, ◌<◌, ◌+◌, ◌-◌, ℕ, List, [], ◌++◌, length, take, drop, ap, sym, ◌∙◌, append_assoc, arith, length-append, length-drop, min}
 use Rattle.std.specs.declared.option.Option.{Option}
-use Rattle.std.specs.Io.KnownBytes.{Appends, Consumes}
-use Rattle.mm_outside.specs.Whole.{GaveMore, GaveWithin}
-use Rattle.std.proofs.KnownBytes.{Appends-trans, Consumes-trans}
+use Rattle.std.specs.Io.KnownBytes.{Appends, Consumes, Keeps}
+use Rattle.mm_outside.specs.Whole.{GaveMore, GaveWithin, WritesFront}
+use Rattle.std.proofs.KnownBytes.{Appends-kept, Appends-trans, Consumes-trans}
 use Rattle.std.proofs.lemmas.List.{take-append-drop, take-append-le, length-take-le, take_all, drop_all, drop-drop}
 use Rattle.std.proofs.lemmas.Grind.{common_steps}
 
 -- what is left of a slice behind its first n, as `&s[n..]` gives it
 pub rest_is : (s : List ℕ) (n : ℕ) → take (length s - n) (drop n s) ≡ drop n s
 rest_is s n = grind (arith, common_steps)
+
+-- the first n bytes were written, and then nothing
+pub some_written : (a b c : Option (List ℕ)) (bytes : List ℕ) (n : ℕ) → Appends a b (take n bytes) → Keeps b c → WritesFront a c bytes
+some_written a b c bytes n took kept = (take n bytes, drop n bytes, sym (take-append-drop n bytes), Appends-kept a b c (take n bytes) took kept)
 
 -- one more piece of the bytes is written
 pub wrote_more : (bytes rest : List ℕ) (n : ℕ) (a b c : Option (List ℕ))

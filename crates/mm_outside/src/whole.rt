@@ -23,6 +23,7 @@ pub fn read_all<S: Source>(
     ensures long { result ≡ Err ReadRefusal.TooLong → GaveMore limit (S.left source.old) (S.left source.new) }
     ensures short { result ≢ Err ReadRefusal.TooLong → GaveWithin limit (S.left source.old) (S.left source.new) }
     ensures refused { IfSome (S.left source.old) (λ text. limit < length text → IsErr result) }
+    ensures fitting { IfSome (S.left source.old) (λ text. length text ≤ limit → result ≢ Err ReadRefusal.TooLong) }
 
     ensures later { S.faults source.old ≤ S.faults source.new }
 {

@@ -1,18 +1,17 @@
 -- The calls of a source or a sink in memory.
-use Rattle.std.specs.Prelude.{ℕ, ◌+◌, ◌-◌, ◌^◌, min, List, Contains}
+use Rattle.std.specs.Prelude.{ℕ, List, Contains}
+use Rattle.mm_outside.specs.Causes.{one_more}
 
--- each call moves at most `piece` bytes, and the calls numbered in `fails` fail; so many calls were made and so many failed
+-- each call moves at most `piece` bytes, and the calls numbered in `fails` fail; `made` and `faults` say how many calls
+-- were made and how many of them failed, up to the greatest u64
 pub record CallState : Type 0 where
   pub piece : ℕ
   pub fails : List ℕ
   pub made : ℕ
   pub faults : ℕ
 
--- a count after one more, up to the greatest u64
-abbrev pub one_more : ℕ → ℕ
-one_more n = min (n + 1) (2 ^ 64 - 1)
-
--- the next call's number, counted from 0, stands in the list
+-- the next call's number, counted from 0, stands in the list; there are only u32 in it, so that it makes no difference
+-- that the number stops at the greatest u64
 abbrev pub IsToFail : CallState → Type 0
 IsToFail calls = Contains calls.fails calls.made
 

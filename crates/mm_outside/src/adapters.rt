@@ -1,8 +1,7 @@
 ghost use Rattle.std.specs.Prelude.{◌≡◌, ◌<◌, None, length, take, IfOk, OnOk, OnErr};
 ghost use Rattle.std.specs.Io.{ReadsAtMost, WritesAtMost};
 ghost use Rattle.std.specs.Io.KnownBytes.{Appends, ReadConsumes, WriteAppends};
-ghost use Rattle.mm_outside.specs.Calls.{one_more};
-ghost use Rattle.mm_outside.specs.Causes.{HasCause};
+ghost use Rattle.mm_outside.specs.Causes.{HasCause, one_more};
 ghost use Rattle.mm_outside.specs.Whole.{WritesFront};
 
 use crate::{Failed, Sink, Source};

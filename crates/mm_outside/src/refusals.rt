@@ -1,5 +1,5 @@
 ghost use Rattle.std.specs.Prelude.{◌≡◌};
-ghost use Rattle.mm_outside.specs.declared.refusals.ReadRefusal.TheVariants.{ReadFault, NoMemory as OutOfMemory};
+ghost use Rattle.mm_outside.specs.declared.refusals.ReadRefusal.TheVariants.{NoMemory as OutOfMemory};
 
 use std::error::Error;
 use std::fmt;
@@ -41,14 +41,6 @@ impl fmt::Display for ReadRefusal {
 }
 
 impl Error for ReadRefusal {}
-
-impl From<Failed> for ReadRefusal {
-    ghost from_gives = { λ _ refusal. refusal ≡ ReadFault };
-
-    fn from(_: Failed) -> Self {
-        ReadRefusal::ReadFault
-    }
-}
 
 impl From<NoMemory> for ReadRefusal {
     ghost from_gives = { λ _ refusal. refusal ≡ OutOfMemory };

@@ -11,7 +11,8 @@ pub trait Source {
     /// The bytes still to come, where the source tells them.
     ghost left: { Self → Option (List ℕ) };
 
-    /// How often a call has failed, up to the greatest `u64`.
+    /// How often a call has failed, up to the greatest `u64`. It never falls, and rises with each call that fails; at
+    /// the greatest `u64` it stands still, and counts as risen.
     ghost faults: { Self → ℕ };
 
     /// Puts the next bytes at the front of `buf` and answers how many they are. 0 is the end: where the source tells
@@ -28,7 +29,8 @@ pub trait Sink {
     /// The bytes written so far, where the sink tells them.
     ghost written: { Self → Option (List ℕ) };
 
-    /// How often a call has failed, up to the greatest `u64`.
+    /// How often a call has failed, up to the greatest `u64`. It never falls, and rises with each call that fails; at
+    /// the greatest `u64` it stands still, and counts as risen.
     ghost faults: { Self → ℕ };
 
     /// Writes a front of the piece, at least one byte, and answers how many bytes it is. A call that failed wrote none.

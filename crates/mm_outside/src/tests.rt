@@ -169,7 +169,7 @@ fn refusals_have_words(rt: HostRuntime) -> Result<(), Fail> {
     let alloc = rt.alloc();
     assert_eq!(rt; format!(in alloc; "{Failed}")?.as_str(), "the call failed");
     for (refusal, words) in [
-        (ReadRefusal::from(Failed), "the source failed"),
+        (ReadRefusal::ReadFault, "the source failed"),
         (
             ReadRefusal::TooLong,
             "the source has more bytes than the limit",

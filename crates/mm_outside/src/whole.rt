@@ -33,7 +33,9 @@ pub fn read_all<S: Source>(
         // At most one byte past the limit is asked for.
         let room = (limit - bytes.len() + 1).min(buf.len());
         let part = &mut buf[..room];
-        let count = source.read(part)?;
+        let Ok(count) = source.read(part) else {
+            return Err(ReadRefusal::ReadFault);
+        };
         if count == 0 {
             return Ok(bytes);
         }

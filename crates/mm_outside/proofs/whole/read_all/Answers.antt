@@ -1,0 +1,17 @@
+use Rattle.std.proofs.Common.{ℕ, arith}
+use Rattle.std.proofs.lemmas.List.{length-take}
+use Rattle.mm_outside.proofs.Bytes.{gave_more, gave_within}
+use Rattle.mm_outside.proofs.whole.read_all.Goals as goal
+
+pub returns-then-count-limit-clause-long : goal.returns-then-count-limit-clause-long
+returns-then-count-limit-clause-long g c _ =
+    gave_more _ c.loop-count.bytes.items c.read.new.buf c.in-Ok.count _ _ _ c.loop-count.invariant.took c.in-Ok.ensures.bytes.0
+    c.in-Ok.ensures.bound.0
+    (omega (arith, c.in-Ok.ensures.bound.0, length-take {A = ℕ}))
+
+pub returns-in_err-extend_from_slice-clause-short :
+    goal.returns-in_err-extend_from_slice-clause-short
+returns-in_err-extend_from_slice-clause-short g c _ =
+    gave_within _ c.loop-count.bytes.items c.read.new.buf c.in-Ok.count _ _ _ c.loop-count.invariant.took c.in-Ok.ensures.bytes.0
+    c.in-Ok.ensures.bound.0
+    (omega (arith, c.in-Ok.ensures.bound.0))

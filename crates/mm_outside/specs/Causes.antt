@@ -1,0 +1,15 @@
+-- What a count of failures says of an answer.
+use Rattle.std.specs.Prelude.{ℕ, ◌+◌, ◌-◌, ◌^◌, ◌≤◌, min, Result, OnErr}
+
+-- a count after one more, up to the greatest u64
+abbrev pub one_more : ℕ → ℕ
+one_more n = min (n + 1) (2 ^ 64 - 1)
+
+-- the count rose, or stands at the greatest u64
+abbrev pub Rose : ℕ → ℕ → Type 0
+Rose before now = one_more before ≤ now
+
+-- the count never falls, and it rose where the call failed
+pub record HasCause {T E : Type 0} (before now : ℕ) (result : Result T E) : Type 0 where
+  pub later : before ≤ now
+  pub failed : OnErr result (Rose before now)

@@ -1,0 +1,4 @@
+pub mod ClosureLemmas
+mod HashedLemmas
+mod HeadLemmas
+mod SameLemmas

@@ -1,6 +1,7 @@
 //! Types, mono items and the lists that the other crates hand to one another.
 #![tactic(auto)]
 
+pub mod closure_laws;
 mod ids;
 mod item;
 mod lists;

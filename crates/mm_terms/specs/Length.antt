@@ -1,12 +1,13 @@
 -- How long types and items are: the number of constructors in them, repeats counted.
 use Rattle.std.specs.Prelude.{◌≡◌, ℕ, ◌+◌, ◌≤◌, List, [], ◌∷◌, length, sum, map, All}
-use Rattle.std.proofs.Common.{ap, ◌∙◌, arith}
+use Rattle.std.proofs.Common.{ap, ◌∙◌, arith, refl, sym, zero-add}
 use Rattle.std.proofs.lemmas.List.Elements.{All-nil, All-cons, All-weaker}
 use Rattle.std.proofs.lemmas.List.Sums.{sum_by-cons}
 use Rattle.mm_terms.specs.declared.ty_head.TyHead.{TyHead}
 use Rattle.mm_terms.specs.declared.tree.Tree.{Tree}
 use Rattle.mm_terms.specs.declared.item.Item.{Item}
 use Rattle.mm_terms.specs.declared.item.Item.TheVariants.{Fn, Glue, Shim, Static}
+use Rattle.mm_terms.specs.Order.{types_of}
 use Rattle.mm_terms.specs.Tree.{tree_fold, tree_fold-parts, children_of, node, children_of-node}
 
 -- the head counts one, and each child its own length
@@ -33,6 +34,13 @@ lengths_of-cons t ts = sum_by-cons (λ n. n) (length_of t) (map length_of ts)
 
 pub length_of-node : (head : TyHead) (children : List Tree) → length_of (node head children) ≡ 1 + lengths_of children
 length_of-node head children = length_of-parts (node head children) ∙ ap (λ ts. 1 + lengths_of ts) (children_of-node head children)
+
+-- an item is as long as all the types that it has
+pub item_length-types : (x : Item) → item_length x ≡ lengths_of (types_of x)
+item_length-types (Fn f args) = refl
+item_length-types (Glue t) = sym (zero-add (length_of t))
+item_length-types (Shim t) = sym (zero-add (length_of t))
+item_length-types (Static d) = refl
 
 -- each type counts at least one
 pub length-le_lengths_of : (ts : List Tree) → length ts ≤ lengths_of ts

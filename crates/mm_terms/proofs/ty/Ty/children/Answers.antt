@@ -11,5 +11,5 @@ invariant_of-push c =
     let within : place < length all = let same = ap length c.as_slice-child-items.ensures in omega arith in
     let child : IsType (get_or all place c.child-item.result) = IsType-children c.self.inside.tree c.self.invariant place c.child-item.result within in
     let is : c.child-item.result ≡ get_or all place c.child-item.result =
-        c.child-item.is ∙ ap (λ list. get_or list place c.child-item.result) c.as_slice-child-items.ensures in
+    c.child-item.is ∙ ap (λ list. get_or list place c.child-item.result) c.as_slice-child-items.ensures in
     subst IsType (sym (c.in_ok-tree.ensures ∙ is)) child

@@ -8,9 +8,9 @@ pub invariant_of-result : goal.invariant_of-result
 invariant_of-result c =
     let copies : c.in_ok-children.children ≡ c.args.children.now = c.in_ok-children.ensures.copies in
     let short : lengths_of c.in_ok-children.children + 1 < 2 ^ 32 =
-        let same = ap lengths_of copies in
-        let total = c.in-Some.ensures in
-        omega arith in
+    let same = ap lengths_of copies in
+    let total = c.in-Some.ensures in
+    omega arith in
     IsType-node c.args.head c.in_ok-children.children
     (subst (λ list. FitsHead c.args.head (length list)) (sym copies) c.requires)
     c.in_ok-children.ensures.formed short

@@ -17,3 +17,6 @@ pub use lists::{ItemList, NoMemory, Nums, Text, Tys};
 pub use tree::Tree;
 pub use ty::{Ty, duplicate_all};
 pub use ty_head::TyHead;
+
+#[cfg(test)]
+mod tests;

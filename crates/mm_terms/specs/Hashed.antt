@@ -17,6 +17,7 @@ use Rattle.mm_terms.specs.Tree.{tree_fold, tree_fold-parts, head_of, children_of
 abbrev pub fed_layer : TyHead → List HashWrites → HashWrites
 fed_layer h children = (head.ghosts).hash_input h ++ fed.slice (λ writes. writes) children
 
+-- a type feeds its layers from its head on
 unfoldable pub fed_tree : Tree → HashWrites
 fed_tree = tree_fold fed_layer
 

@@ -25,6 +25,9 @@ item_length (Glue t) = length_of t
 item_length (Shim t) = length_of t
 item_length (Static d) = 0
 
+-- ---- laws
+
+-- the head, and then the children
 pub length_of-parts : (t : Tree) → length_of t ≡ 1 + lengths_of (children_of t)
 unfolding length_of
 length_of-parts t = tree_fold-parts (λ head lengths. 1 + sum lengths) t

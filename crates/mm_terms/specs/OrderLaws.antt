@@ -26,6 +26,7 @@ slice_cmp-applied R [] (y ∷ ys) = refl
 slice_cmp-applied R (x ∷ xs) [] = refl
 slice_cmp-applied R (x ∷ xs) (y ∷ ys) = ap (ordering_then (R x y)) (slice_cmp-applied R xs ys)
 
+-- two types compare as their heads do, and under equal heads as their children do
 pub tree_cmp-parts : (s t : Tree) → tree_cmp s t ≡ ordering_then (ty_head_cmp (head_of s) (head_of t)) (slice_cmp tree_cmp (children_of s) (children_of t))
 unfolding tree_cmp
 tree_cmp-parts s t =
@@ -66,6 +67,7 @@ cmp_within-is (suc n) s t h =
     ap (ordering_then (ty_head_cmp (head_of s) (head_of t))) (cmp_within-lists n (cmp_within-is n) (children_of s) (children_of t) (omega arith))
     ∙ sym (tree_cmp-parts s t)
 
+-- any three types are compared within some depth, where the order is total
 pub tree_cmp_total : IsTotalOrder tree_cmp
 tree_cmp_total = record {
   antisymm = λ s t.
@@ -133,6 +135,7 @@ head_from-parts (Closure d) = refl
 head_from-parts (Dyn d) = refl
 head_from-parts (Adt d) = refl
 
+-- heads that compare equal are one
 pub ty_head_cmp_equal : (a b : TyHead) → ty_head_cmp a b ≡ Equal → a ≡ b
 unfolding ty_head_cmp
 ty_head_cmp_equal a b h =
@@ -161,11 +164,12 @@ equal_within (suc n) s t small h =
     let children : children_of s ≡ children_of t = lists_equal tree_cmp length_of n (equal_within n) (children_of s) (children_of t) (omega arith) both.1 in
     sym (node-parts s) ∙ (λ i. node (heads i) (children i)) ∙ node-parts t
 
+-- types that compare equal are one
 pub tree_cmp_equal : (s t : Tree) → tree_cmp s t ≡ Equal → s ≡ t
 tree_cmp_equal s t = equal_within (length_of s) s t (omega arith)
 
-types_equal : (ss ts : List Tree) → slice_cmp tree_cmp ss ts ≡ Equal → ss ≡ ts
-types_equal ss ts = lists_equal tree_cmp (λ _. 0) (sum (map (λ _. 0) ss)) (λ s t _. tree_cmp_equal s t) ss ts (omega arith)
+type_lists_equal : (ss ts : List Tree) → slice_cmp tree_cmp ss ts ≡ Equal → ss ≡ ts
+type_lists_equal ss ts = lists_equal tree_cmp (λ _. 0) (sum (map (λ _. 0) ss)) (λ s t _. tree_cmp_equal s t) ss ts (omega arith)
 
 -- the item of a kind, an id and types
 item_from : ℕ → ℕ → List Tree → Item
@@ -183,6 +187,7 @@ item_from-parts (Glue t) = refl
 item_from-parts (Shim t) = refl
 item_from-parts (Static d) = refl
 
+-- items that compare equal are one
 pub item_cmp_equal : (x y : Item) → item_cmp x y ≡ Equal → x ≡ y
 unfolding item_cmp
 item_cmp_equal x y h =
@@ -190,13 +195,14 @@ item_cmp_equal x y h =
     let rest = both_equal (nat_cmp (id_of x) (id_of y)) (slice_cmp tree_cmp (types_of x) (types_of y)) first.1 in
     let kinds = nat_cmp_equal (kind_of x) (kind_of y) first.0 in
     let ids = nat_cmp_equal (id_of x) (id_of y) rest.0 in
-    let types = types_equal (types_of x) (types_of y) rest.1 in
+    let types = type_lists_equal (types_of x) (types_of y) rest.1 in
     sym (item_from-parts x) ∙ (λ i. item_from (kinds i) (ids i) (types i)) ∙ item_from-parts y
 
+-- heads of impls that compare equal are one
 pub head_cmp_equal : (a b : Head) → head_cmp a b ≡ Equal → a ≡ b
 unfolding head_cmp
 head_cmp_equal a b h =
     let parts = both_equal (nat_cmp a.tr.0 b.tr.0) (slice_cmp tree_cmp a.args b.args) h in
     let traits = nat_cmp_equal a.tr.0 b.tr.0 parts.0 in
-    let types = types_equal a.args b.args parts.1 in
+    let types = type_lists_equal a.args b.args parts.1 in
     λ i. record { tr = record { 0 = traits i }; args = types i }

@@ -1,4 +1,5 @@
 pub mod ClosureLemmas
 mod HashedLemmas
 mod HeadLemmas
+mod OrderLemmas
 mod SameLemmas

@@ -2,11 +2,11 @@
 use Rattle.std.specs.Prelude.{◌≡◌, ◌==◌, ◌&&◌, Bool, true, refl}
 use Rattle.std.proofs.Common.{subst, ap, ◌∙◌, sym}
 use Rattle.std.specs.Bool.{Decides}
-use Rattle.std.specs.Cmp.{IsEquivalence, IsTotalOrder, eq_by_cmp_equiv, tied_itself, tied_then, unsigned_tied, Equal-is}
+use Rattle.std.specs.Cmp.{IsEquivalence, IsPartialOrder, IsTotalOrder, eq_by_cmp_equiv, partial_order_from_total, tied_itself, tied_then, unsigned_tied, Equal-is}
 use Rattle.std.specs.Cmp.Lexicographic.{pointwise, slice_cmp, lists_ties}
 use Rattle.std.specs.declared.cmp.Ordering.{Ordering}
 use Rattle.std.specs.declared.cmp.Ordering.TheVariants.{Equal}
-use Rattle.std.specs.Ordering.{eq_by_cmp, is_eq, nat_cmp, ordering_then}
+use Rattle.std.specs.Ordering.{as_partial_cmp, eq_by_cmp, is_eq, nat_cmp, ordering_then}
 use Rattle.mm_terms.specs.declared.tree.Tree.{Tree}
 use Rattle.mm_terms.specs.declared.item.Item.{Item}
 use Rattle.mm_terms.specs.Tree.{head_of, children_of}
@@ -37,13 +37,30 @@ pub items_equal : (x y : Item) → Decides (same_item x y) (x ≡ y)
 unfolding same_item
 items_equal = decides item_cmp item_cmp_total item_cmp_equal
 
+-- what the traits of std ask of `==`, `partial_cmp` and `cmp` together
 pub same_tree_equiv : IsEquivalence same_tree
 unfolding same_tree
 same_tree_equiv = eq_by_cmp_equiv tree_cmp_total
 
+pub same_tree_order : IsPartialOrder same_tree (as_partial_cmp tree_cmp)
+unfolding same_tree
+same_tree_order = partial_order_from_total tree_cmp_total
+
+pub same_tree-cmp : (s t : Tree) → same_tree s t ≡ eq_by_cmp tree_cmp s t
+unfolding same_tree
+same_tree-cmp s t = refl
+
 pub same_item_equiv : IsEquivalence same_item
 unfolding same_item
 same_item_equiv = eq_by_cmp_equiv item_cmp_total
+
+pub same_item_order : IsPartialOrder same_item (as_partial_cmp item_cmp)
+unfolding same_item
+same_item_order = partial_order_from_total item_cmp_total
+
+pub same_item-cmp : (x y : Item) → same_item x y ≡ eq_by_cmp item_cmp x y
+unfolding same_item
+same_item-cmp x y = refl
 
 -- types are the same where their heads are, and their children are, one by one
 pub same_tree-parts : (s t : Tree) → same_tree s t ≡ (eq_by_cmp head_cmp (head_of s) (head_of t) && pointwise same_tree (children_of s) (children_of t))

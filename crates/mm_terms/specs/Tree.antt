@@ -1,10 +1,12 @@
 -- Types as finite trees. Each tree is `node head children` for one head and one list of children.
-use Rattle.std.specs.Prelude.{◌≡◌, List, map}
-use Rattle.std.proofs.Common.{ap}
+use Rattle.std.specs.Prelude.{◌≡◌, List, [], ◌∷◌, map, All}
+use Rattle.std.proofs.Common.{ap, subst}
+use Rattle.std.proofs.lemmas.List.Elements.{All-nil, All-cons}
 use Rattle.mm_terms.specs.declared.ty_head.TyHead.{TyHead}
 use Rattle.mm_terms.specs.declared.tree.Tree.{Tree}
+use Rattle.mm_terms.specs.declared.tree.Tree.TheOpen.{Tree-F}
 use Rattle.mm_terms.specs.declared.tree.Tree.TheViews.{out-Tree, roll-Tree, roll-out-Tree, out-roll-Tree}
-use Rattle.mm_terms.specs.declared.tree.Tree.TheFolds.{fold-Tree, fold-roll-Tree, fold_out-Tree}
+use Rattle.mm_terms.specs.declared.tree.Tree.TheFolds.{fold-Tree, fold-roll-Tree, fold_out-Tree, ind-Tree}
 
 -- the type with this head and these children
 abbrev pub node : TyHead → List Tree → Tree
@@ -39,3 +41,12 @@ tree_fold-node {A} step head children = fold-roll-Tree A (λ layer. step layer.h
 -- the same of a type that is not written as a node
 pub tree_fold-parts : {A : Type 0} (step : TyHead → List A → A) (t : Tree) → tree_fold step t ≡ step (head_of t) (map (tree_fold step) (children_of t))
 tree_fold-parts {A} step t = fold_out-Tree A (λ layer. step layer.head layer.children) t
+
+each_of : (P : Tree → Type 0) (ts : List ((t : Tree) × P t)) → All P (map (λ e. e.0) ts)
+each_of P [] = All-nil P
+each_of P (t ∷ ts) = All-cons P t.0 (map (λ e. e.0) ts) t.1 (each_of P ts)
+
+-- induction: what holds of a type wherever it holds of its children holds of every type
+pub tree_ind : (P : Tree → Type 0) → ((head : TyHead) (children : List Tree) → All P children → P (node head children)) → (t : Tree) → P t
+tree_ind P step =
+    ind-Tree P (λ layer held are. step layer.head layer.children (subst (λ (z : Tree-F Tree). All P z.children) are (each_of P held.children)))

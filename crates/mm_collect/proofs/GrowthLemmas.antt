@@ -1,0 +1,1 @@
+-- what a list of found items keeps while it grows

@@ -1,4 +1,4 @@
-ghost use Rattle.std.specs.Prelude.{◌≡◌, ℕ, ◌+◌, ◌≤◌, ◌≢◌, List, ◌++◌, length, All, Contains, IfOk, OnOk};
+ghost use Rattle.std.specs.Prelude.{◌≡◌, ℕ, ◌+◌, ◌≤◌, List, ◌∷◌, ◌++◌, length, All, Contains, IfOk, OnOk};
 ghost use Rattle.std.specs.List.{IsDistinct};
 ghost use Rattle.indexmap.specs.IndexSet.{insert_key, insert_all};
 ghost use Rattle.mm_terms.specs.declared.item.Item.{Item};
@@ -52,10 +52,10 @@ pub trait Graph {
 /// Notes an item as found, where it is new. `TooMany` comes where that makes more items than the limit.
 fn claim(found: &mut IndexSet<Item>, limit: usize, item: Item) -> Result<(), Stop>
     requires { length found.old.keys ≤ limit }
-    ensures kept { result ≡ Err Stop.NoMemory → found.new.keys ≡ found.old.keys }
-    ensures claimed { result ≢ Err Stop.NoMemory → found.new.keys ≡ insert_key same_item found.old.keys item }
+    ensures claimed { OnOk result (found.new.keys ≡ insert_key same_item found.old.keys item) }
+    ensures among { All (Contains (item ∷ found.old.keys)) found.new.keys }
     ensures within { OnOk result (length found.new.keys ≤ limit) }
-    ensures full { result ≡ Err Stop.TooMany → length found.new.keys ≡ limit + 1 }
+    ensures too_many { result ≡ Err Stop.TooMany → length found.new.keys ≡ limit + 1 }
     ensures once { IsDistinct same_item found.new.keys }
 {
     found.insert(item)?;
@@ -71,7 +71,7 @@ fn claim_all(found: &mut IndexSet<Item>, limit: usize, items: Vec<Item>) -> Resu
     ensures claimed { OnOk result (found.new.keys ≡ insert_all same_item found.old.keys items.items) }
     ensures among { All (Contains (found.old.keys ++ items.items)) found.new.keys }
     ensures within { OnOk result (length found.new.keys ≤ limit) }
-    ensures full { result ≡ Err Stop.TooMany → length found.new.keys ≡ limit + 1 }
+    ensures too_many { result ≡ Err Stop.TooMany → length found.new.keys ≡ limit + 1 }
     ensures once { IsDistinct same_item found.new.keys }
 {
     for item in items {

@@ -1,2 +1,3 @@
 mod RootLemmas
 mod GrowthLemmas
+mod ClosingLemmas

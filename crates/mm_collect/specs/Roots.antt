@@ -1,7 +1,6 @@
 -- What a program needs from the start, whatever is used: the roots of lazy collection.
 use Rattle.std.specs.Prelude.{ℕ, ◌||◌, Bool, List, map, filter, nat_eq}
 use Rattle.std.specs.List.{enumerate_from}
-use Rattle.mm_terms.specs.declared.ids.DefId.{DefId}
 use Rattle.mm_terms.specs.declared.item.Item.{Item}
 use Rattle.mm_collect.specs.declared.program.Program.{Program}
 use Rattle.mm_collect.specs.declared.program.Function.{Function}

@@ -20,11 +20,14 @@ loop-item-preserved c =
     let item = c.in-Some.item in
     let rest = into_iter_items c.next.new.self in
     let left : into_iter_items c.loop-item.item-iterator ≡ item ∷ rest = search rules in
-    let both = All-same P (item ∷ rest) _ (sym left) c.loop-item.invariant.5 in
-    (tt, tt, c.in_ok-claim.ensures.within,
-     ap (λ ks. insert_all same_item ks rest) c.in_ok-claim.ensures.claimed ∙ ap (insert_all same_item keys) (sym left) ∙ c.loop-item.invariant.3,
-     carried P (item ∷ keys) _ (All-cons P item keys (All-head P item rest both) c.loop-item.invariant.4) c.claim.ensures.among,
-     All-tail P item rest both)
+    let both = All-same P (item ∷ rest) _ (sym left) c.loop-item.invariant.5 in (
+      tt,
+      tt,
+      c.in_ok-claim.ensures.within,
+      ap (λ ks. insert_all same_item ks rest) c.in_ok-claim.ensures.claimed ∙ ap (insert_all same_item keys) (sym left) ∙ c.loop-item.invariant.3,
+      carried P (item ∷ keys) _ (All-cons P item keys (All-head P item rest both) c.loop-item.invariant.4) c.claim.ensures.among,
+      All-tail P item rest both,
+    )
 
 pub returns-in_err-claim-clause-among : goal.returns-in_err-claim-clause-among
 returns-in_err-claim-clause-among c =

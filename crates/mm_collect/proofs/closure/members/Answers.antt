@@ -13,9 +13,12 @@ loop-item-init g c =
     let keys = c.claim_all.new.found.keys in
     let empty : c.new-found.result.keys ≡ [] = search rules in
     let given : c.in_ok-start.field-0.items ≡ roots = search rules in
-    let among : All (Contains roots) keys = subst (λ xs. All (Contains xs) keys) (λ i. empty i ++ given i) c.claim_all.ensures.among in
-    (begun roots (g.G.Graph.uses c.args.graph.now) keys among (c.in_ok-claim_all.ensures.claimed ∙ (λ i. insert_all same_item (empty i) (given i))),
-     c.in_ok-claim_all.ensures.within, omega arith, c.claim_all.ensures.once)
+    let among : All (Contains roots) keys = subst (λ xs. All (Contains xs) keys) (λ i. empty i ++ given i) c.claim_all.ensures.among in (
+      begun roots (g.G.Graph.uses c.args.graph.now) keys among (c.in_ok-claim_all.ensures.claimed ∙ (λ i. insert_all same_item (empty i) (given i))),
+      c.in_ok-claim_all.ensures.within,
+      omega arith,
+      c.claim_all.ensures.once,
+    )
 
 pub returns-in_err-claim_all-clause-too_many : goal.returns-in_err-claim_all-clause-too_many
 returns-in_err-claim_all-clause-too_many g c stopped =
@@ -63,12 +66,15 @@ loop-item-preserved g c =
     let given : c.in_ok-used.used.items ≡ uses item = search rules in
     let within : c.loop-item.next < length old = search rules in
     let is : get_or old c.loop-item.next item ≡ item = get_or_from_slice_get old c.loop-item.next item item (sym c.in-Some.ensures.key) in
-    let among : All (Contains (old ++ uses item)) new = subst (λ xs. All (Contains (old ++ xs)) new) given c.claim_all-in-Some.ensures.among in
-    (scanned roots uses old new c.loop-item.next item c.loop-item.invariant.0 within is among (c.in_ok-claim_all-2.ensures.claimed ∙ ap (insert_all same_item old) given),
-     c.in_ok-claim_all-2.ensures.within, (let more = no_shorter old c.in_ok-used.used.items new c.in_ok-claim_all-2.ensures.claimed in omega (arith, more, within)), c.claim_all-in-Some.ensures.once)
+    let among : All (Contains (old ++ uses item)) new = subst (λ xs. All (Contains (old ++ xs)) new) given c.claim_all-in-Some.ensures.among in (
+      scanned roots uses old new c.loop-item.next item c.loop-item.invariant.0 within is among (c.in_ok-claim_all-2.ensures.claimed ∙ ap (insert_all same_item old) given),
+      c.in_ok-claim_all-2.ensures.within,
+      (let more = no_shorter old c.in_ok-used.used.items new c.in_ok-claim_all-2.ensures.claimed in omega (arith, more, within)),
+      c.claim_all-in-Some.ensures.once,
+    )
 
 pub returns-clause-members : goal.returns-clause-members
-returns-clause-members g c = 
+returns-clause-members g c =
     let roots = g.G.Graph.roots c.args.graph.now in
     let uses = g.G.Graph.uses c.args.graph.now in
     whole roots uses c.loop-item.found.keys c.loop-item.next c.loop-item.invariant.0 (search rules) c.loop-item.invariant.3

@@ -7,7 +7,7 @@ ghost use Rattle.mm_terms.specs.Closure.{AreMembers, HasMoreThan};
 ghost use Rattle.mm_collect.specs.declared.closure.Stop.TheVariants.{NoMemory};
 
 use indexmap::IndexSet;
-use mm_terms::Item;
+use mm_terms::{Item, ItemList};
 use std::alloc::{AllocError, AllocFailed, Global};
 
 /// Why the members of a closure are not listed.
@@ -72,19 +72,18 @@ fn claim_all(found: &mut IndexSet<Item>, limit: usize, items: Vec<Item>) -> Resu
     ensures among { All (Contains (found.old.keys ++ items.items)) found.new.keys }
     ensures within { OnOk result (length found.new.keys ≤ limit) }
     ensures too_many { result ≡ Err Stop.TooMany → length found.new.keys ≡ limit + 1 }
-    ensures once { IsDistinct same_item found.new.keys }
+    ensures once { result ≡ Err Stop.TooMany → IsDistinct same_item found.new.keys }
 {
     for item in items {
         claim(found, limit, item)?;
     }
-    let _found = found.len();
     Ok(())
 }
 
-/// The members of a graph's closure, each once, in order of finding.
-pub fn members<G: Graph>(alloc: Global, graph: &G, limit: usize) -> Result<IndexSet<Item>, Stop>
-    ensures members { IfOk result (λ found. AreMembers (G.roots graph.now) (G.uses graph.now) found.keys) }
-    ensures within { IfOk result (λ found. length found.keys ≤ limit) }
+/// The members of a graph's closure, each once, in order of finding. What is found waits in that order to be scanned.
+pub fn members<G: Graph>(alloc: Global, graph: &G, limit: usize) -> Result<ItemList, Stop>
+    ensures members { IfOk result (AreMembers (G.roots graph.now) (G.uses graph.now)) }
+    ensures within { IfOk result (λ items. length items ≤ limit) }
     ensures too_many { result ≡ Err Stop.TooMany → HasMoreThan (G.roots graph.now) (G.uses graph.now) limit }
 {
     let mut found = IndexSet::new(alloc);
@@ -95,5 +94,6 @@ pub fn members<G: Graph>(alloc: Global, graph: &G, limit: usize) -> Result<Index
         claim_all(&mut found, limit, used)?;
         next += 1;
     }
-    Ok(found)
+    let items = found.into_iter().collect(alloc)?;
+    Ok(ItemList::from_vec(items))
 }

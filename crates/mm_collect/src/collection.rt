@@ -47,10 +47,7 @@ pub fn collect(alloc: Global, p: &Program, opts: &Opts) -> Result<ItemList, Coll
     ensures no_missing { (text : List ℕ) → result ≢ Err (CollectFault.NoImpl text) }
 {
     match members(alloc, p, opts.items as usize) {
-        Ok(found) => match found.into_iter().collect(alloc) {
-            Ok(items) => Ok(ItemList::from_vec(items)),
-            Err(AllocError) => Err(CollectFault::NoMemory),
-        },
+        Ok(items) => Ok(items),
         Err(Stop::TooMany) => Err(CollectFault::TooMany(opts.items)),
         Err(Stop::NoMemory) => Err(CollectFault::NoMemory),
     }

@@ -2,6 +2,7 @@ use Rattle.std.proofs.Common.{rules, ◌≡◌, ◌<◌, [], ◌++◌, length, g
 use Rattle.std.proofs.lemmas.Result.{err_from_is_err_and}
 use Rattle.std.proofs.lemmas.Option.{get_or_from_slice_get}
 use Rattle.indexmap.specs.IndexSet.{insert_all}
+use Rattle.mm_terms.specs.Closure.{AreMembers}
 use Rattle.mm_terms.specs.Same.{same_item}
 use Rattle.mm_collect.specs.declared.closure.Stop.TheVariants.{TooMany}
 use Rattle.mm_collect.proofs.ClosingLemmas.{begun, members_first, members_still, no_shorter, scanned, whole}
@@ -17,7 +18,6 @@ loop-item-init g c =
       begun roots (g.G.Graph.uses c.args.graph.now) keys among (c.in_ok-claim_all.ensures.claimed ∙ (λ i. insert_all same_item (empty i) (given i))),
       c.in_ok-claim_all.ensures.within,
       omega arith,
-      c.claim_all.ensures.once,
     )
 
 pub returns-in_err-claim_all-clause-too_many : goal.returns-in_err-claim_all-clause-too_many
@@ -29,10 +29,11 @@ returns-in_err-claim_all-clause-too_many g c stopped =
     let among : All (Contains roots) keys = subst (λ xs. All (Contains xs) keys) (λ i. empty i ++ given i) c.claim_all.ensures.among in
     let p = err_from_is_err_and c.from_residual-in_err-claim_all.result c.from_residual-in_err-claim_all.ensures.1 in
     let why : p.0 ≡ TooMany = grind arith in
+    let stopped' : c.claim_all.result ≡ Err TooMany = c.in_err-claim_all.was ∙ ap Err (sym p.2 ∙ why) in
     record {
       items = keys;
-      many = c.claim_all.ensures.too_many (c.in_err-claim_all.was ∙ ap Err (sym p.2 ∙ why));
-      once = c.claim_all.ensures.once;
+      many = c.claim_all.ensures.too_many stopped';
+      once = c.claim_all.ensures.once stopped';
       each = members_first roots (g.G.Graph.uses c.args.graph.now) keys among;
     }
 
@@ -49,10 +50,11 @@ returns-in_err-claim_all-2-clause-too_many g c stopped =
     let among : All (Contains (old ++ uses item)) new = subst (λ xs. All (Contains (old ++ xs)) new) given c.claim_all-in-Some.ensures.among in
     let p = err_from_is_err_and c.from_residual-in_err-claim_all-2.result c.from_residual-in_err-claim_all-2.ensures.1 in
     let why : p.0 ≡ TooMany = grind arith in
+    let stopped' : c.claim_all-in-Some.result ≡ Err TooMany = c.in_err-claim_all-2.was ∙ ap Err (sym p.2 ∙ why) in
     record {
       items = new;
-      many = c.claim_all-in-Some.ensures.too_many (c.in_err-claim_all-2.was ∙ ap Err (sym p.2 ∙ why));
-      once = c.claim_all-in-Some.ensures.once;
+      many = c.claim_all-in-Some.ensures.too_many stopped';
+      once = c.claim_all-in-Some.ensures.once stopped';
       each = members_still roots uses old new c.loop-item.next item c.loop-item.invariant.0 within is among;
     }
 
@@ -70,11 +72,11 @@ loop-item-preserved g c =
       scanned roots uses old new c.loop-item.next item c.loop-item.invariant.0 within is among (c.in_ok-claim_all-2.ensures.claimed ∙ ap (insert_all same_item old) given),
       c.in_ok-claim_all-2.ensures.within,
       (let more = no_shorter old c.in_ok-used.used.items new c.in_ok-claim_all-2.ensures.claimed in omega (arith, more, within)),
-      c.claim_all-in-Some.ensures.once,
     )
 
 pub returns-clause-members : goal.returns-clause-members
 returns-clause-members g c =
     let roots = g.G.Graph.roots c.args.graph.now in
     let uses = g.G.Graph.uses c.args.graph.now in
-    whole roots uses c.loop-item.found.keys c.loop-item.next c.loop-item.invariant.0 (search rules) c.loop-item.invariant.3
+    let same : c.from_vec.result ≡ c.loop-item.found.keys = search rules in
+    subst (AreMembers roots uses) (sym same) (whole roots uses c.loop-item.found.keys c.loop-item.next c.loop-item.invariant.0 (search rules) (search rules))

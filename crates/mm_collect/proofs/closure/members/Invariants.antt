@@ -1,6 +1,4 @@
 use Rattle.std.proofs.Common.{◌-◌, ◌≤◌, length}
-use Rattle.std.specs.List.{IsDistinct}
-use Rattle.mm_terms.specs.Same.{same_item}
 use Rattle.mm_collect.proofs.ClosingLemmas.{IsClosing}
 use Rattle.mm_collect.proofs.closure.members.Given as goal
 
@@ -9,7 +7,6 @@ invariant-loop-item g l =
     IsClosing (g.G.Graph.roots l.graph) (g.G.Graph.uses l.graph) l.found.keys l.next
     × (length l.found.keys ≤ l.limit)
     × (l.next ≤ length l.found.keys)
-    × IsDistinct same_item l.found.keys
 
 abbrev pub decreases-loop-item : goal.decreases-loop-item
 decreases-loop-item g l = l.limit - l.next

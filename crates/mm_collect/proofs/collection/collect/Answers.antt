@@ -1,18 +1,12 @@
-use Rattle.std.proofs.Common.{rules, ◌≡◌, subst, sym, arith}
+use Rattle.std.proofs.Common.{rules, arith}
 use Rattle.mm_terms.proofs.ClosureLemmas.{one_verdict}
-use Rattle.mm_terms.specs.Closure.{AreMembers}
 use Rattle.mm_collect.specs.Roots.{roots_of}
 use Rattle.mm_collect.specs.Uses.{uses_of}
 use Rattle.mm_collect.proofs.collection.collect.Goals as goal
 
-pub returns-in-Ok-collect-clause-members : goal.returns-in-Ok-collect-clause-members
-returns-in-Ok-collect-clause-members c =
-    let same : c.from_vec.result ≡ c.in-Ok.found.keys = search rules in
-    subst (AreMembers (roots_of c.args.p.now) (uses_of c.args.p.now)) (sym same) c.in-Ok.ensures.members
-
-pub returns-in-Ok-collect-clause-refused : goal.returns-in-Ok-collect-clause-refused
-returns-in-Ok-collect-clause-refused c more =
-    let longer = one_verdict (roots_of c.args.p.now) (uses_of c.args.p.now) c.args.opts.now.items c.in-Ok.found.keys more c.in-Ok.ensures.members in
+pub returns-in-Ok-clause-refused : goal.returns-in-Ok-clause-refused
+returns-in-Ok-clause-refused c more =
+    let longer = one_verdict (roots_of c.args.p.now) (uses_of c.args.p.now) c.args.opts.now.items c.in-Ok.items more c.in-Ok.ensures.members in
     omega (arith, longer, c.in-Ok.ensures.within)
 
 pub returns-in-Err-TooMany-clause-accepted : goal.returns-in-Err-TooMany-clause-accepted

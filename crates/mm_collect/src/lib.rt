@@ -11,3 +11,6 @@ mod uses;
 pub use collection::collect;
 pub use fault::CollectFault;
 pub use program::{Block, End, Function, Opts, Program};
+
+#[cfg(test)]
+mod tests;

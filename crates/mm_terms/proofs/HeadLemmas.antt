@@ -6,10 +6,10 @@ use Rattle.mm_terms.specs.declared.ty_head.TyHead.{TyHead}
 use Rattle.mm_terms.specs.declared.ty_head.TyHead.TheVariants.{Param, U64, Bool as Boolean, Tuple, Ref, Boxed, FnPtr, FnItem, Closure, Dyn, Adt}
 use Rattle.mm_terms.specs.contracts.ty_head.TyHeadOrd.TheImpl as order
 use Rattle.mm_terms.specs.contracts.ty_head.TyHeadPartialEq.TheImpl as equality
-use Rattle.mm_terms.specs.Order.{head_cmp}
+use Rattle.mm_terms.specs.Order.{ty_head_cmp}
 
-pub derived_cmp : (a b : TyHead) → (order.ghosts).cmp a b ≡ head_cmp a b
-unfolding head_cmp
+pub derived_cmp : (a b : TyHead) → (order.ghosts).cmp a b ≡ ty_head_cmp a b
+unfolding ty_head_cmp
 derived_cmp (Param j) (Param k) = refl
 derived_cmp U64 U64 = refl
 derived_cmp Boolean Boolean = refl
@@ -23,8 +23,8 @@ derived_cmp (Dyn d) (Dyn e) = refl
 derived_cmp (Adt d) (Adt e) = refl
 derived_cmp a b = refl
 
-pub derived_eq : (a b : TyHead) → (equality.ghosts).eq a b ≡ eq_by_cmp head_cmp a b
-unfolding head_cmp
+pub derived_eq : (a b : TyHead) → (equality.ghosts).eq a b ≡ eq_by_cmp ty_head_cmp a b
+unfolding ty_head_cmp
 derived_eq (Param j) (Param k) = unsigned_ties j k
 derived_eq U64 U64 = refl
 derived_eq Boolean Boolean = refl

@@ -3,3 +3,4 @@ mod HashedLemmas
 mod HeadLemmas
 mod OrderLemmas
 mod SameLemmas
+mod TypeLemmas

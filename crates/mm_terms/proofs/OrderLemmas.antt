@@ -1,5 +1,5 @@
 -- What one comparison of heads or of lengths tells of the order of two types.
-use Rattle.std.proofs.Common.{◌≡◌, ℕ, ◌<◌, ◌≤◌, zero, suc, Bool, true, false, cond, List, [], ◌∷◌, length, drop, refl, sym, ap, ◌∙◌, arith}
+use Rattle.std.proofs.Common.{◌≡◌, ℕ, ◌≤◌, suc, Bool, true, false, List, [], ◌∷◌, length, drop, refl, sym, ap, ◌∙◌, arith}
 use Rattle.std.proofs.lemmas.Bool.{false≢true}
 use Rattle.std.proofs.lemmas.Bool.Decides.{nat_tests}
 use Rattle.std.specs.Cmp.{nat_cmp_is}
@@ -10,7 +10,7 @@ use Rattle.std.specs.Ordering.{is_ne, nat_cmp, ordering_then}
 use Rattle.mm_terms.specs.declared.tree.Tree.{Tree}
 use Rattle.mm_terms.specs.contracts.ty_head.TyHeadOrd.TheImpl as order
 use Rattle.mm_terms.specs.Tree.{head_of, children_of}
-use Rattle.mm_terms.specs.Order.{head_cmp, tree_cmp}
+use Rattle.mm_terms.specs.Order.{tree_cmp}
 use Rattle.mm_terms.specs.OrderLaws.{tree_cmp-parts}
 use Rattle.mm_terms.proofs.HeadLemmas.{derived_cmp}
 

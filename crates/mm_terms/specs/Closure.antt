@@ -7,12 +7,12 @@ use Rattle.mm_terms.specs.declared.item.Item.{Item}
 use Rattle.mm_terms.specs.Same.{same_item}
 
 module _ (roots : List Item) (uses : Item → List Item) where
-  -- x ends a chain of uses, with these items before it, the last of them first: the last one uses x, the one before it uses that one, and so on back to a root
+  -- A chain of uses begins at a root, and each item in it uses the next. x ends one, after the items before it, the nearest first: that one uses x and ends the rest of the chain
   abbrev pub EndsChain : Item → List Item → Type 0
   EndsChain x [] = Contains roots x
   EndsChain x (user ∷ before) = Contains (uses user) x × EndsChain user before
 
-  -- x is a member of the closure: it ends some chain of uses
+  -- x is a member of the closure: some finite chain of uses ends with it
   abbrev pub IsMember : Item → Type 0
   IsMember x = (before : List Item) × EndsChain x before
 

@@ -24,6 +24,7 @@ FitsHead (Closure d) n = ⊤
 FitsHead (Dyn d) n = ⊤
 FitsHead (Adt d) n = ⊤
 
+-- the head of one layer takes its children
 abbrev FitsHere : Tree-F Tree → Type 0
 FitsHere layer = FitsHead layer.head (length layer.children)
 
@@ -38,6 +39,7 @@ pub record IsType (t : Tree) : Type 0 where
 
 -- ---- laws
 
+-- the head of a formed type fits the number of its children
 pub IsFormed-head : (t : Tree) → IsFormed t → FitsHead (head_of t) (length (children_of t))
 unfolding IsFormed
 IsFormed-head t formed = every_here-Tree FitsHere t formed
@@ -47,6 +49,7 @@ unfolding IsFormed
 each_formed [] = All-nil IsFormed
 each_formed (t ∷ ts) = All-cons IsFormed t.0 (map (λ e. e.0) ts) t.1 (each_formed ts)
 
+-- the children of a formed type are formed
 pub IsFormed-children : (t : Tree) → IsFormed t → All IsFormed (children_of t)
 unfolding IsFormed
 IsFormed-children t formed =
@@ -63,6 +66,7 @@ unfolding IsFormed paired
 paired_are [] formed = refl
 paired_are (t ∷ ts) formed = ap (λ list. t ∷ list) (paired_are ts (All-tail IsFormed t ts formed))
 
+-- a head over formed children, as many as it takes, is formed
 pub IsFormed-node : (head : TyHead) (children : List Tree) → FitsHead head (length children) → All IsFormed children → IsFormed (node head children)
 unfolding IsFormed
 IsFormed-node head children fits formed =

@@ -6,6 +6,7 @@ use Rattle.std.specs.Ordering.{nat_cmp, on, then_cmp, ordering_then}
 use Rattle.mm_terms.specs.declared.ty_head.TyHead.{TyHead}
 use Rattle.mm_terms.specs.declared.ty_head.TyHead.TheVariants.{Param, U64, Bool, Tuple, Ref, Boxed, FnPtr, FnItem, Closure, Dyn, Adt}
 use Rattle.mm_terms.specs.declared.tree.Tree.{Tree}
+use Rattle.mm_terms.specs.declared.head.Head.{Head}
 use Rattle.mm_terms.specs.declared.item.Item.{Item}
 use Rattle.mm_terms.specs.declared.item.Item.TheVariants.{Fn, Glue, Shim, Static}
 use Rattle.mm_terms.specs.Tree.{tree_fold, head_of, children_of}
@@ -39,12 +40,12 @@ number_of (Dyn d) = d.0
 number_of (Adt d) = d.0
 
 -- heads by their variants, and then by their numbers
-unfoldable pub head_cmp : TyHead → TyHead → Ordering
-head_cmp = then_cmp (on variant_of nat_cmp) (on number_of nat_cmp)
+unfoldable pub ty_head_cmp : TyHead → TyHead → Ordering
+ty_head_cmp = then_cmp (on variant_of nat_cmp) (on number_of nat_cmp)
 
 -- types by their heads, and then by their children: child by child, and a list that ends first is less
 unfoldable pub tree_cmp : Tree → Tree → Ordering
-tree_cmp = tree_fold (λ head comparisons other. ordering_then (head_cmp head (head_of other)) (slice_cmp (λ compare child. compare child) comparisons (children_of other)))
+tree_cmp = tree_fold (λ head comparisons other. ordering_then (ty_head_cmp head (head_of other)) (slice_cmp (λ compare child. compare child) comparisons (children_of other)))
 
 -- the place of an item's variant among the variants
 abbrev pub kind_of : Item → ℕ
@@ -70,3 +71,7 @@ types_of (Static d) = []
 -- items by their variants, then by their ids, and then by their types, as lists
 unfoldable pub item_cmp : Item → Item → Ordering
 item_cmp = then_cmp (on kind_of nat_cmp) (then_cmp (on id_of nat_cmp) (on types_of (slice_cmp tree_cmp)))
+
+-- heads of impls by their traits, and then by their types, as lists
+unfoldable pub head_cmp : Head → Head → Ordering
+head_cmp = then_cmp (on (λ h. h.tr.0) nat_cmp) (on (λ h. h.args) (slice_cmp tree_cmp))

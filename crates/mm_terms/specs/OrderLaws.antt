@@ -11,11 +11,12 @@ use Rattle.mm_terms.specs.declared.ids.DefId.{DefId}
 use Rattle.mm_terms.specs.declared.ty_head.TyHead.{TyHead}
 use Rattle.mm_terms.specs.declared.ty_head.TyHead.TheVariants.{Param, U64, Bool, Tuple, Ref, Boxed, FnPtr, FnItem, Closure, Dyn, Adt}
 use Rattle.mm_terms.specs.declared.tree.Tree.{Tree}
+use Rattle.mm_terms.specs.declared.head.Head.{Head}
 use Rattle.mm_terms.specs.declared.item.Item.{Item}
 use Rattle.mm_terms.specs.declared.item.Item.TheVariants.{Fn, Glue, Shim, Static}
 use Rattle.mm_terms.specs.Tree.{head_of, children_of, node, node-parts, tree_fold-parts}
 use Rattle.mm_terms.specs.Length.{length_of, lengths_of, length_of-parts}
-use Rattle.mm_terms.specs.Order.{head_cmp, tree_cmp, item_cmp, variant_of, number_of, kind_of, id_of, types_of}
+use Rattle.mm_terms.specs.Order.{ty_head_cmp, tree_cmp, item_cmp, head_cmp, variant_of, number_of, kind_of, id_of, types_of}
 
 -- ---- the equation of `tree_cmp`
 
@@ -25,27 +26,28 @@ slice_cmp-applied R [] (y ∷ ys) = refl
 slice_cmp-applied R (x ∷ xs) [] = refl
 slice_cmp-applied R (x ∷ xs) (y ∷ ys) = ap (ordering_then (R x y)) (slice_cmp-applied R xs ys)
 
-pub tree_cmp-parts : (s t : Tree) → tree_cmp s t ≡ ordering_then (head_cmp (head_of s) (head_of t)) (slice_cmp tree_cmp (children_of s) (children_of t))
+-- two types compare as their heads do, and under equal heads as their children do
+pub tree_cmp-parts : (s t : Tree) → tree_cmp s t ≡ ordering_then (ty_head_cmp (head_of s) (head_of t)) (slice_cmp tree_cmp (children_of s) (children_of t))
 unfolding tree_cmp
 tree_cmp-parts s t =
-    ap (λ (compare : Tree → Ordering). compare t) (tree_fold-parts (λ head comparisons other. ordering_then (head_cmp head (head_of other)) (slice_cmp (λ compare child. compare child) comparisons (children_of other))) s)
-    ∙ ap (ordering_then (head_cmp (head_of s) (head_of t))) (slice_cmp-applied tree_cmp (children_of s) (children_of t))
+    ap (λ (compare : Tree → Ordering). compare t) (tree_fold-parts (λ head comparisons other. ordering_then (ty_head_cmp head (head_of other)) (slice_cmp (λ compare child. compare child) comparisons (children_of other))) s)
+    ∙ ap (ordering_then (ty_head_cmp (head_of s) (head_of t))) (slice_cmp-applied tree_cmp (children_of s) (children_of t))
 
 -- ---- the orders are total
 
-pub head_cmp_total : IsTotalOrder head_cmp
-unfolding head_cmp
-head_cmp_total = then_total (on_total variant_of nat_cmp_total) (on_total number_of nat_cmp_total)
+pub ty_head_cmp_total : IsTotalOrder ty_head_cmp
+unfolding ty_head_cmp
+ty_head_cmp_total = then_total (on_total variant_of nat_cmp_total) (on_total number_of nat_cmp_total)
 
 -- the order of types that looks only so deep, and finds all below equal
 cmp_within : ℕ → Tree → Tree → Ordering
 cmp_within zero = λ _ _. Equal
-cmp_within (suc n) = then_cmp (on head_of head_cmp) (on children_of (slice_cmp (cmp_within n)))
+cmp_within (suc n) = then_cmp (on head_of ty_head_cmp) (on children_of (slice_cmp (cmp_within n)))
 
 cmp_within_total : (n : ℕ) → IsTotalOrder (cmp_within n)
 unfolding cmp_within
 cmp_within_total zero = record { antisymm = λ _ _. refl; trans = λ _ _ _ p _. p; congr = λ _ _ _ _. refl }
-cmp_within_total (suc n) = then_total (on_total head_of head_cmp_total) (on_total children_of (lists_total (cmp_within_total n)))
+cmp_within_total (suc n) = then_total (on_total head_of ty_head_cmp_total) (on_total children_of (lists_total (cmp_within_total n)))
 
 cmp_within-lists : (n : ℕ) → ((s t : Tree) → length_of s ≤ n → cmp_within n s t ≡ tree_cmp s t) → (ss ts : List Tree) → lengths_of ss ≤ n → slice_cmp (cmp_within n) ss ts ≡ slice_cmp tree_cmp ss ts
 cmp_within-lists n one [] [] h = refl
@@ -62,9 +64,10 @@ unfolding cmp_within
 cmp_within-is zero s t h = absurd (let parts = length_of-parts s in omega arith)
 cmp_within-is (suc n) s t h =
     let parts = length_of-parts s in
-    ap (ordering_then (head_cmp (head_of s) (head_of t))) (cmp_within-lists n (cmp_within-is n) (children_of s) (children_of t) (omega arith))
+    ap (ordering_then (ty_head_cmp (head_of s) (head_of t))) (cmp_within-lists n (cmp_within-is n) (children_of s) (children_of t) (omega arith))
     ∙ sym (tree_cmp-parts s t)
 
+-- any three types are compared within some depth, where the order is total
 pub tree_cmp_total : IsTotalOrder tree_cmp
 tree_cmp_total = record {
   antisymm = λ s t.
@@ -85,6 +88,10 @@ pub item_cmp_total : IsTotalOrder item_cmp
 unfolding item_cmp
 item_cmp_total =
     then_total (on_total kind_of nat_cmp_total) (then_total (on_total id_of nat_cmp_total) (on_total types_of (lists_total tree_cmp_total)))
+
+pub head_cmp_total : IsTotalOrder head_cmp
+unfolding head_cmp
+head_cmp_total = then_total (on_total (λ h. h.tr.0) nat_cmp_total) (on_total (λ h. h.args) (lists_total tree_cmp_total))
 
 -- ---- what compares equal is one
 
@@ -128,9 +135,10 @@ head_from-parts (Closure d) = refl
 head_from-parts (Dyn d) = refl
 head_from-parts (Adt d) = refl
 
-pub head_cmp_equal : (a b : TyHead) → head_cmp a b ≡ Equal → a ≡ b
-unfolding head_cmp
-head_cmp_equal a b h =
+-- heads that compare equal are one
+pub ty_head_cmp_equal : (a b : TyHead) → ty_head_cmp a b ≡ Equal → a ≡ b
+unfolding ty_head_cmp
+ty_head_cmp_equal a b h =
     let parts = both_equal (nat_cmp (variant_of a) (variant_of b)) (nat_cmp (number_of a) (number_of b)) h in
     sym (head_from-parts a)
     ∙ (λ i. head_from (nat_cmp_equal (variant_of a) (variant_of b) parts.0 i) (nat_cmp_equal (number_of a) (number_of b) parts.1 i))
@@ -151,16 +159,17 @@ equal_within : (n : ℕ) (s t : Tree) → length_of s ≤ n → tree_cmp s t ≡
 equal_within zero s t small h = absurd (let parts = length_of-parts s in omega arith)
 equal_within (suc n) s t small h =
     let parts = length_of-parts s in
-    let both = both_equal (head_cmp (head_of s) (head_of t)) (slice_cmp tree_cmp (children_of s) (children_of t)) (sym (tree_cmp-parts s t) ∙ h) in
-    let heads : head_of s ≡ head_of t = head_cmp_equal (head_of s) (head_of t) both.0 in
+    let both = both_equal (ty_head_cmp (head_of s) (head_of t)) (slice_cmp tree_cmp (children_of s) (children_of t)) (sym (tree_cmp-parts s t) ∙ h) in
+    let heads : head_of s ≡ head_of t = ty_head_cmp_equal (head_of s) (head_of t) both.0 in
     let children : children_of s ≡ children_of t = lists_equal tree_cmp length_of n (equal_within n) (children_of s) (children_of t) (omega arith) both.1 in
     sym (node-parts s) ∙ (λ i. node (heads i) (children i)) ∙ node-parts t
 
+-- types that compare equal are one
 pub tree_cmp_equal : (s t : Tree) → tree_cmp s t ≡ Equal → s ≡ t
 tree_cmp_equal s t = equal_within (length_of s) s t (omega arith)
 
-types_equal : (ss ts : List Tree) → slice_cmp tree_cmp ss ts ≡ Equal → ss ≡ ts
-types_equal ss ts = lists_equal tree_cmp (λ _. 0) (sum (map (λ _. 0) ss)) (λ s t _. tree_cmp_equal s t) ss ts (omega arith)
+type_lists_equal : (ss ts : List Tree) → slice_cmp tree_cmp ss ts ≡ Equal → ss ≡ ts
+type_lists_equal ss ts = lists_equal tree_cmp (λ _. 0) (sum (map (λ _. 0) ss)) (λ s t _. tree_cmp_equal s t) ss ts (omega arith)
 
 -- the item of a kind, an id and types
 item_from : ℕ → ℕ → List Tree → Item
@@ -178,6 +187,7 @@ item_from-parts (Glue t) = refl
 item_from-parts (Shim t) = refl
 item_from-parts (Static d) = refl
 
+-- items that compare equal are one
 pub item_cmp_equal : (x y : Item) → item_cmp x y ≡ Equal → x ≡ y
 unfolding item_cmp
 item_cmp_equal x y h =
@@ -185,5 +195,14 @@ item_cmp_equal x y h =
     let rest = both_equal (nat_cmp (id_of x) (id_of y)) (slice_cmp tree_cmp (types_of x) (types_of y)) first.1 in
     let kinds = nat_cmp_equal (kind_of x) (kind_of y) first.0 in
     let ids = nat_cmp_equal (id_of x) (id_of y) rest.0 in
-    let types = types_equal (types_of x) (types_of y) rest.1 in
+    let types = type_lists_equal (types_of x) (types_of y) rest.1 in
     sym (item_from-parts x) ∙ (λ i. item_from (kinds i) (ids i) (types i)) ∙ item_from-parts y
+
+-- heads of impls that compare equal are one
+pub head_cmp_equal : (a b : Head) → head_cmp a b ≡ Equal → a ≡ b
+unfolding head_cmp
+head_cmp_equal a b h =
+    let parts = both_equal (nat_cmp a.tr.0 b.tr.0) (slice_cmp tree_cmp a.args b.args) h in
+    let traits = nat_cmp_equal a.tr.0 b.tr.0 parts.0 in
+    let types = type_lists_equal a.args b.args parts.1 in
+    λ i. record { tr = record { 0 = traits i }; args = types i }

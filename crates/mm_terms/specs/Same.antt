@@ -8,10 +8,11 @@ use Rattle.std.specs.declared.cmp.Ordering.{Ordering}
 use Rattle.std.specs.declared.cmp.Ordering.TheVariants.{Equal}
 use Rattle.std.specs.Ordering.{as_partial_cmp, eq_by_cmp, is_eq, nat_cmp, ordering_then}
 use Rattle.mm_terms.specs.declared.tree.Tree.{Tree}
+use Rattle.mm_terms.specs.declared.head.Head.{Head}
 use Rattle.mm_terms.specs.declared.item.Item.{Item}
 use Rattle.mm_terms.specs.Tree.{head_of, children_of}
-use Rattle.mm_terms.specs.Order.{head_cmp, tree_cmp, item_cmp, kind_of, id_of, types_of}
-use Rattle.mm_terms.specs.OrderLaws.{tree_cmp-parts, tree_cmp_total, tree_cmp_equal, item_cmp_total, item_cmp_equal}
+use Rattle.mm_terms.specs.Order.{ty_head_cmp, tree_cmp, item_cmp, head_cmp, kind_of, id_of, types_of}
+use Rattle.mm_terms.specs.OrderLaws.{tree_cmp-parts, tree_cmp_total, tree_cmp_equal, item_cmp_total, item_cmp_equal, head_cmp_total, head_cmp_equal}
 
 -- neither type is before the other
 unfoldable pub same_tree : Tree → Tree → Bool
@@ -20,6 +21,10 @@ same_tree = eq_by_cmp tree_cmp
 -- neither item is before the other
 unfoldable pub same_item : Item → Item → Bool
 same_item = eq_by_cmp item_cmp
+
+-- neither head of an impl is before the other
+unfoldable pub same_head : Head → Head → Bool
+same_head = eq_by_cmp head_cmp
 
 -- ---- laws
 
@@ -36,6 +41,11 @@ types_equal = decides tree_cmp tree_cmp_total tree_cmp_equal
 pub items_equal : (x y : Item) → Decides (same_item x y) (x ≡ y)
 unfolding same_item
 items_equal = decides item_cmp item_cmp_total item_cmp_equal
+
+-- the test of heads of impls is equality
+pub heads_equal : (a b : Head) → Decides (same_head a b) (a ≡ b)
+unfolding same_head
+heads_equal = decides head_cmp head_cmp_total head_cmp_equal
 
 -- what the traits of std ask of `==`, `partial_cmp` and `cmp` together
 pub same_tree_equiv : IsEquivalence same_tree
@@ -62,11 +72,23 @@ pub same_item-cmp : (x y : Item) → same_item x y ≡ eq_by_cmp item_cmp x y
 unfolding same_item
 same_item-cmp x y = refl
 
+pub same_head_equiv : IsEquivalence same_head
+unfolding same_head
+same_head_equiv = eq_by_cmp_equiv head_cmp_total
+
+pub same_head_order : IsPartialOrder same_head (as_partial_cmp head_cmp)
+unfolding same_head
+same_head_order = partial_order_from_total head_cmp_total
+
+pub same_head-cmp : (a b : Head) → same_head a b ≡ eq_by_cmp head_cmp a b
+unfolding same_head
+same_head-cmp a b = refl
+
 -- types are the same where their heads are, and their children are, one by one
-pub same_tree-parts : (s t : Tree) → same_tree s t ≡ (eq_by_cmp head_cmp (head_of s) (head_of t) && pointwise same_tree (children_of s) (children_of t))
+pub same_tree-parts : (s t : Tree) → same_tree s t ≡ (eq_by_cmp ty_head_cmp (head_of s) (head_of t) && pointwise same_tree (children_of s) (children_of t))
 unfolding same_tree
 same_tree-parts s t =
-    let heads : Ordering = head_cmp (head_of s) (head_of t) in
+    let heads : Ordering = ty_head_cmp (head_of s) (head_of t) in
     let children : Ordering = slice_cmp tree_cmp (children_of s) (children_of t) in
     ap is_eq (tree_cmp-parts s t)
     ∙ sym (tied_then heads children)
@@ -82,3 +104,10 @@ same_item-parts x y =
     sym (tied_then ids types) ∙ (λ i. unsigned_tied (id_of x) (id_of y) i && sym (lists_ties tree_cmp (λ _ _. refl) (types_of x) (types_of y)) i) in
     sym (tied_then (nat_cmp (kind_of x) (kind_of y)) (ordering_then ids types))
     ∙ (λ i. unsigned_tied (kind_of x) (kind_of y) i && below i)
+
+-- heads of impls are the same where their traits and their types are
+pub same_head-parts : (a b : Head) → same_head a b ≡ ((a.tr.0 == b.tr.0) && pointwise same_tree a.args b.args)
+unfolding same_head same_tree head_cmp
+same_head-parts a b =
+    sym (tied_then (nat_cmp a.tr.0 b.tr.0) (slice_cmp tree_cmp a.args b.args))
+    ∙ (λ i. unsigned_tied a.tr.0 b.tr.0 i && sym (lists_ties tree_cmp (λ _ _. refl) a.args b.args) i)

@@ -1,22 +1,21 @@
-ghost use Rattle.std.specs.Prelude.{◌≡◌};
+ghost use Rattle.std.specs.Prelude.{◌≡◌, ◌<◌, ◌^◌, IfOk, refl};
+ghost use Rattle.std.specs.Option.{SomeIff};
 ghost use Rattle.std.specs.Cmp.{partial_equiv_from_equiv};
+ghost use Rattle.std.specs.Ordering.{as_partial_cmp};
 ghost use Rattle.std.proofs.Common.{ap};
-ghost use Rattle.mm_terms.specs.Same.{same_item, same_item_equiv, items_equal};
 ghost use Rattle.mm_terms.specs.Hashed.{fed_item};
-ghost use Rattle.mm_terms.specs.Order.{kind_of, id_of, types_of};
+ghost use Rattle.mm_terms.specs.Length.{item_length};
+ghost use Rattle.mm_terms.specs.Order.{item_cmp, kind_of, id_of, types_of};
+ghost use Rattle.mm_terms.specs.OrderLaws.{item_cmp_total};
+ghost use Rattle.mm_terms.specs.Same.{same_item, same_item_equiv, same_item_order, same_item-cmp, items_equal};
 
 use crate::ids::DefId;
-use crate::lists::Tys;
-use crate::ty::Ty;
+use crate::lists::{NoMemory, Tys};
+use crate::ty::{Ty, duplicate_all, total_length};
+use std::alloc::Global;
+use std::cmp::Ordering;
 use std::hash::{Hash, Hasher};
 use std::slice;
-
-/// A trait at types: the self type first, then the trait's own arguments.
-#[derive(Debug, Drop)]
-pub struct Head {
-    pub tr: DefId,
-    pub args: Tys,
-}
 
 /// A mono item: what is compiled once, and has no type parameter left.
 #[derive(Debug, Drop)]
@@ -31,6 +30,32 @@ pub enum Item {
 }
 
 impl Item {
+    pub fn duplicate(&self, alloc: Global) -> Result<Item, NoMemory>
+        ensures { IfOk result (λ item. item ≡ self.now) }
+    {
+        match self {
+            Item::Fn(def, args) => Ok(Item::Fn(*def, duplicate_all(alloc, args.as_slice())?)),
+            Item::Glue(ty) => Ok(Item::Glue(ty.duplicate(alloc)?)),
+            Item::Shim(ty) => Ok(Item::Shim(ty.duplicate(alloc)?)),
+            Item::Static(def) => Ok(Item::Static(*def)),
+        }
+    }
+
+    /// The number of constructors in the item's types, repeats counted. A static has none.
+    pub fn length(&self) -> u32
+        requires { item_length self.now < 2 ^ 32 }
+        ensures { result ≡ item_length self.now }
+    {
+        total_length(self.types()).unwrap()
+    }
+
+    /// The length, or `None` where it is 2^32 or more.
+    pub fn try_length(&self) -> Option<u32>
+        ensures { SomeIff result (item_length self.now < 2 ^ 32) (item_length self.now) }
+    {
+        total_length(self.types())
+    }
+
     /// The place of the variant among the variants.
     fn kind(&self) -> u8
         ensures { result ≡ kind_of self.now }
@@ -78,6 +103,34 @@ impl PartialEq for Item {
 
 impl Eq for Item {
     ghost laws = { same_item_equiv };
+}
+
+impl PartialOrd for Item {
+    ghost partial_cmp = { as_partial_cmp item_cmp };
+
+    ghost laws = { same_item_order };
+
+    fn partial_cmp(&self, other: &Item) -> Option<Ordering> {
+        Some(self.cmp(other))
+    }
+}
+
+impl Ord for Item {
+    ghost cmp = { item_cmp };
+
+    ghost total = { item_cmp_total };
+
+    ghost matches_partial_cmp = { λ _ _. refl };
+
+    ghost matches_eq = { same_item-cmp };
+
+    #[tactic(auto, unfolding(crate::specs::Order::item_cmp))]
+    fn cmp(&self, other: &Item) -> Ordering {
+        self.kind()
+            .cmp(&other.kind())
+            .then(self.id().cmp(&other.id()))
+            .then_with(|| self.types().cmp(&other.types()))
+    }
 }
 
 impl Hash for Item {

@@ -1,3 +1,5 @@
+ghost use Rattle.std.specs.Prelude.{◌↔◌, IsTrue};
+
 use crate::ids::DefId;
 
 /// What stands at the head of a type. Heads are ordered as they are listed here, then by their numbers.
@@ -17,4 +19,21 @@ pub enum TyHead {
     Dyn(DefId),
     /// A struct or an enum.
     Adt(DefId),
+}
+
+impl TyHead {
+    ghost use Rattle.mm_terms.specs.Formed.{FitsHead};
+
+    /// Whether the head may have so many children.
+    pub fn takes(self, arity: usize) -> bool
+        ensures { IsTrue result ↔ FitsHead self arity }
+    {
+        match self {
+            TyHead::Param(_) | TyHead::U64 | TyHead::Bool => arity == 0,
+            TyHead::Ref | TyHead::Boxed => arity == 1,
+            TyHead::Tuple => arity != 1,
+            TyHead::FnPtr => arity != 0,
+            TyHead::FnItem(_) | TyHead::Closure(_) | TyHead::Dyn(_) | TyHead::Adt(_) => true,
+        }
+    }
 }

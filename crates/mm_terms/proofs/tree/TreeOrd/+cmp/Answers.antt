@@ -21,5 +21,5 @@ returns t c =
     let ys = children_of c.args.other.now in
     let at_end : c.loop-i.i ≡ length xs = let all = ap length c.as_slice-child-items.ensures in omega arith in
     let lengths : c.cmp.result ≡ nat_cmp (length xs) (length ys) =
-        c.cmp.ensures ∙ (λ i. nat_cmp (c.len.ensures i) (length (c.as_slice-others.ensures i))) in
+    c.cmp.ensures ∙ (λ i. nat_cmp (c.len.ensures i) (length (c.as_slice-others.ensures i))) in
     lengths ∙ sym (c.loop-i.invariant.same ∙ by_lengths tree_cmp xs ys c.loop-i.i at_end c.loop-i.invariant.within)

@@ -42,9 +42,11 @@ pub trait Graph {
     /// The items that an item uses.
     ghost uses: { Self → Item → List Item };
 
+    /// Lists the roots.
     fn start(&self, alloc: Global) -> Result<Vec<Item>, AllocError>
         ensures { IfOk result (λ items. items.items ≡ roots self.now) };
 
+    /// Lists what an item uses.
     fn scan(&self, alloc: Global, item: &Item) -> Result<Vec<Item>, AllocError>
         ensures { IfOk result (λ items. items.items ≡ uses self.now item.now) };
 }

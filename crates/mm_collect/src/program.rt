@@ -42,7 +42,7 @@ pub enum End {
 /// How collection is limited.
 #[derive(Clone, Copy, Debug, PartialEq, Eq, Hash)]
 pub struct Opts {
-    /// The greatest number of items of one crate.
+    /// The greatest number of items of one crate. Any number serves.
     pub items: u32,
 }
 

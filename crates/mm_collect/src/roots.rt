@@ -15,12 +15,14 @@ fn is_root(p: &Program, id: u32, function: &Function) -> bool
 }
 
 /// The items that are needed whatever is used: the functions that other crates can name, and `main`. Each is there
-/// once, in order of definition. These are the roots of lazy collection, as in rustc.
+/// once, in order of definition. Collection begins with roots, as in rustc; that exactly these are the roots is this
+/// project's own rule.
 pub fn roots(alloc: Global, p: &Program) -> Result<Vec<Item>, NoMemory>
     ensures { IfOk result (λ items. items.items ≡ roots_of p.now) }
 {
     let mut roots = Vec::new(alloc);
     for (place, function) in p.functions.as_slice().iter().enumerate() {
+        // There are ids for 2^32 functions.
         let Ok(id) = u32::try_from(place) else {
             return Err(NoMemory);
         };

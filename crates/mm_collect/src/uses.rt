@@ -12,7 +12,8 @@ pub fn instance(alloc: Global, def: DefId) -> Item
     Item::Fn(def, Tys::new(alloc))
 }
 
-/// The items that the body of an item names, in order of place. An item that has no body uses nothing.
+/// The items that the body of an item names, in order of place, as often as it names them. As in rustc, a call uses
+/// its callee. An item that has no body uses nothing.
 pub fn uses(alloc: Global, p: &Program, item: &Item) -> Result<Vec<Item>, NoMemory>
     ensures { IfOk result (λ items. items.items ≡ uses_of p.now item.now) }
 {

@@ -1,0 +1,3 @@
+mod RootLemmas
+mod GrowthLemmas
+mod ClosingLemmas

@@ -1,0 +1,16 @@
+pub mod Codes
+pub mod Given
+pub mod Grammar
+pub mod Language
+pub mod LexMarks
+pub mod LexReading
+pub mod LexText
+pub mod LexTokens
+pub mod LexWords
+pub mod Listing
+pub mod Loading
+pub mod Meaning
+pub mod Parsing
+pub mod Reading
+pub mod Report
+pub mod Words

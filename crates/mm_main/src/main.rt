@@ -1,13 +1,12 @@
 //! The program `mono`: hands its words and the standard streams to the top call, and ends with its status.
 #![tactic(auto)]
 
-use std::alloc::{AllocError, Global};
-use std::io;
-use std::process::ExitCode;
-use std::{env, io::ErrorKind};
-
 use mm_outside::{StdSink, StdSource};
 use mm_tool::tool_one;
+use std::alloc::{AllocError, Global};
+use std::io::ErrorKind;
+use std::process::ExitCode;
+use std::{env, io};
 
 /// The words were not given by the system.
 const NO_WORDS: u8 = 24;

@@ -1,0 +1,9 @@
+//! Substitution: types put in place of the parameters of other types. It is what turns generic code into its instances.
+#![tactic(auto)]
+
+mod substitution;
+
+pub use substitution::{apply, apply_all};
+
+#[cfg(test)]
+mod tests;

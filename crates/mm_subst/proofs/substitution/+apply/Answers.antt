@@ -1,9 +1,9 @@
-use Rattle.std.proofs.Common.{◌≡◌, ◌<◌, ◌≤◌, ◌++◌, length, map, drop, get_or, sym, ap, ◌∙◌, subst as cast, arith}
+use Rattle.std.proofs.Common.{◌≡◌, ◌<◌, ◌≤◌, length, get_or, sym, ap, ◌∙◌, subst as cast, arith}
 use Rattle.std.proofs.lemmas.Grind.{common_steps}
 use Rattle.std.proofs.lemmas.List.{length-map}
 use Rattle.std.specs.Prelude.{IfOk}
 use Rattle.mm_terms.specs.Formed.{FitsHead}
-use Rattle.mm_terms.specs.Tree.{node, head_of, children_of}
+use Rattle.mm_terms.specs.Tree.{node, children_of}
 use Rattle.mm_terms.specs.Substitution.{subst, ParamsBelow-param}
 use Rattle.mm_subst.proofs.SubstitutionLemmas.{at_param, at_node, shorter, child_below, all_made}
 use Rattle.mm_subst.proofs.substitution.+apply.Goals as goal

@@ -156,8 +156,8 @@ pub subst-no_param : (args : List Tree) (t : Tree) → HasNoParam t → subst ar
 subst-no_param args t none =
     tree_ind (λ t. ParamsBelow 0 t → subst args t ≡ t)
     (λ head children each below.
-      subst-node args head children (λ i is. absurd (let under = below_head 0 head children i is below in omega arith))
-      ∙ ap (node head) (map_keeps (subst args) children (λ k d within. each k d within (below_children 0 head children below k d within))))
+    subst-node args head children (λ i is. absurd (let under = below_head 0 head children i is below in omega arith))
+    ∙ ap (node head) (map_keeps (subst args) children (λ k d within. each k d within (below_children 0 head children below k d within))))
     t (ParamsBelow-none 0 t none)
 
 module _ (outer args : List Tree) where
@@ -188,10 +188,10 @@ module _ (outer args : List Tree) where
   subst-subst =
       tree_ind (λ t. ParamsBelow (length args) t → Composes t)
       (λ head children each below.
-        ⊎_elim
-        (λ param. composes_param head children param.0 param.1 (below_head (length args) head children param.0 param.1 below))
-        (λ other. composes_node head children other (λ k d within. each k d within (below_children (length args) head children below k d within)))
-        (param_or_not head))
+      ⊎_elim
+      (λ param. composes_param head children param.0 param.1 (below_head (length args) head children param.0 param.1 below))
+      (λ other. composes_node head children other (λ k d within. each k d within (below_children (length args) head children below k d within)))
+      (param_or_not head))
 
 below_all : (n : ℕ) (args ts : List Tree) → All (λ t. ParamsBelow n (subst args t)) ts → All (ParamsBelow n) (subst_all args ts)
 below_all n args ts each = All-map (ParamsBelow n) (subst args) ts each
@@ -205,17 +205,17 @@ pub subst-below : (n : ℕ) (args : List Tree) → All (ParamsBelow n) args → 
 subst-below n args each_arg =
     tree_ind (λ t. ParamsBelow (length args) t → ParamsBelow n (subst args t))
     (λ head children each below.
-      let t : Tree = node head children in
-      ⊎_elim
-      (λ param.
-        let within = below_head (length args) head children param.0 param.1 below in
-        let is : subst args t ≡ get_or args param.0 t = ap (λ h. subst args (node h children)) param.1 ∙ subst-param args param.0 children t within in
-        cast (ParamsBelow n) (sym is) (All-get_or (ParamsBelow n) args param.0 t within each_arg))
-      (λ other.
-        cast (ParamsBelow n) (sym (subst-node args head children other))
-        (ParamsBelow-node n head (subst_all args children) (none_own n head other)
-          (below_all n args children (λ k d within. each k d within (below_children (length args) head children below k d within)))))
-      (param_or_not head))
+    let t : Tree = node head children in
+    ⊎_elim
+    (λ param.
+    let within = below_head (length args) head children param.0 param.1 below in
+    let is : subst args t ≡ get_or args param.0 t = ap (λ h. subst args (node h children)) param.1 ∙ subst-param args param.0 children t within in
+    cast (ParamsBelow n) (sym is) (All-get_or (ParamsBelow n) args param.0 t within each_arg))
+    (λ other.
+    cast (ParamsBelow n) (sym (subst-node args head children other))
+    (ParamsBelow-node n head (subst_all args children) (none_own n head other)
+    (below_all n args children (λ k d within. each k d within (below_children (length args) head children below k d within)))))
+    (param_or_not head))
 
 -- arguments without parameters leave none
 pub subst-leaves_none : (args : List Tree) (t : Tree) → All HasNoParam args → ParamsBelow (length args) t → HasNoParam (subst args t)

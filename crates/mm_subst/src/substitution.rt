@@ -5,8 +5,9 @@ use mm_terms::{NoMemory, Ty, TyHead, Tys};
 use sqlite_items::Items;
 use std::alloc::Global;
 
-/// The type with `args[i]` in place of each parameter i. It takes memory for each level of the type in turn. A result
-/// of length 2^32 or more is not made: that is `NoMemory` too.
+/// The type with `args[i]` in place of each parameter i, and all else as it is. A result of length 2^32 or more is not
+/// made: that is `NoMemory` too. Each level of the type is copied on its way, so the time grows with the length of the
+/// result times the depth of the type.
 pub fn apply(alloc: Global, ty: &Ty, args: &[Ty]) -> Result<Ty, NoMemory>
     requires { ParamsBelow (length args.now) ty.now }
     ensures { IfOk result (λ t. t ≡ subst args.now ty.now) }

@@ -1,12 +1,13 @@
 -- Substitution: types put in place of the parameters of a type.
-use Rattle.std.specs.Prelude.{◌≡◌, ◌≢◌, ◌⊎◌, ℕ, ◌<◌, List, [], ◌∷◌, ◌++◌, length, map, get_or, flat_map, All}
+use Rattle.std.specs.Prelude.{◌≡◌, ◌≢◌, ◌⊎◌, ℕ, ◌<◌, ◌≤◌, List, [], ◌∷◌, ◌++◌, length, map, get_or, flat_map, All}
 use Rattle.std.proofs.Common.{◌∙◌, refl, sym, ap, arith, inl, inr, ⊎_elim, subst as cast}
 use Rattle.std.proofs.lemmas.List.{get_or_default, get_or-map, length-map}
-use Rattle.std.proofs.lemmas.List.Elements.{All-nil, All-cons, All-head, All-tail, All-append, All-same, All-map, All-get_or}
+use Rattle.std.proofs.lemmas.List.Elements.{All-nil, All-cons, All-head, All-tail, All-append, All-same, All-map, All-get_or, All-weaker}
 use Rattle.std.proofs.lemmas.List.Folds.{flat_map-map}
 use Rattle.mm_terms.specs.declared.ty_head.TyHead.{TyHead}
 use Rattle.mm_terms.specs.declared.ty_head.TyHead.TheVariants.{Param}
 use Rattle.mm_terms.specs.declared.tree.Tree.{Tree}
+use Rattle.mm_terms.specs.Formed.{FitsHead, IsFormed, IsFormed-head, IsFormed-children, IsFormed-node}
 use Rattle.mm_terms.specs.Tree.{node, head_of, children_of, tree_fold, tree_fold-node, tree_fold-parts, tree_ind, node-parts, head_of-node, children_of-node}
 
 -- what stands in place of a head, over children that are substituted: its argument where it is a parameter, and else the head itself. A parameter past the arguments stays too
@@ -221,3 +222,42 @@ subst-below n args each_arg =
 pub subst-leaves_none : (args : List Tree) (t : Tree) → All HasNoParam args → ParamsBelow (length args) t → HasNoParam (subst args t)
 subst-leaves_none args t none below =
     HasNoParam-below (subst args t) (subst-below 0 args (λ k d within. ParamsBelow-none 0 (get_or args k d) (none k d within)) t below)
+
+-- what is below a bound is below a greater one
+pub ParamsBelow-weaker : (n m : ℕ) (t : Tree) → n ≤ m → ParamsBelow n t → ParamsBelow m t
+ParamsBelow-weaker n m t le below = All-weaker (λ i. i < n) (λ i. i < m) (λ i under. omega arith) (params_of t) below
+
+-- a formed type stays formed under formed arguments
+pub IsFormed-subst : (args : List Tree) → All IsFormed args → (t : Tree) → IsFormed t → ParamsBelow (length args) t → IsFormed (subst args t)
+IsFormed-subst args each_arg =
+    tree_ind (λ t. IsFormed t → ParamsBelow (length args) t → IsFormed (subst args t))
+    (λ head children each formed below.
+    let t : Tree = node head children in
+    let parts : All IsFormed children = All-same IsFormed children (children_of t) (sym (children_of-node head children)) (IsFormed-children t formed) in
+    let fits : FitsHead head (length children) =
+    cast (λ h. FitsHead h (length children)) (head_of-node head children)
+    (cast (λ list. FitsHead (head_of t) (length list)) (children_of-node head children) (IsFormed-head t formed)) in
+    ⊎_elim
+    (λ param.
+    let within = below_head (length args) head children param.0 param.1 below in
+    let is : subst args t ≡ get_or args param.0 t = ap (λ h. subst args (node h children)) param.1 ∙ subst-param args param.0 children t within in
+    cast IsFormed (sym is) (All-get_or IsFormed args param.0 t within each_arg))
+    (λ other.
+    cast IsFormed (sym (subst-node args head children other))
+    (IsFormed-node head (subst_all args children)
+    (cast (FitsHead head) (sym (length-map children (subst args))) fits)
+    (All-map IsFormed (subst args) children (λ k d within. each k d within (parts k d within) (below_children (length args) head children below k d within)))))
+    (param_or_not head))
+
+-- ---- the same laws for several types
+
+pub subst_all-no_param : (args ts : List Tree) → All HasNoParam ts → subst_all args ts ≡ ts
+subst_all-no_param args ts none = map_keeps (subst args) ts (λ k d within. subst-no_param args (get_or ts k d) (none k d within))
+
+pub subst_all-subst_all : (outer args ts : List Tree) → All (ParamsBelow (length args)) ts → subst_all outer (subst_all args ts) ≡ subst_all (subst_all outer args) ts
+subst_all-subst_all outer args ts below =
+    map_agree (subst outer) (subst args) (subst (subst_all outer args)) ts (λ k d within. subst-subst outer args (get_or ts k d) (below k d within))
+
+pub subst_all-leaves_none : (args ts : List Tree) → All HasNoParam args → All (ParamsBelow (length args)) ts → All HasNoParam (subst_all args ts)
+subst_all-leaves_none args ts none below =
+    All-map HasNoParam (subst args) ts (λ k d within. subst-leaves_none args (get_or ts k d) none (below k d within))

@@ -6,3 +6,4 @@ pub mod OrderLaws
 pub mod Same
 pub mod Closure
 pub mod Hashed
+pub mod Substitution

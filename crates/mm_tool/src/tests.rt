@@ -28,7 +28,10 @@ fn one_function_passes_each_call(rt: HostRuntime) -> Result<(), Fail> {
     let alloc = rt.alloc();
     let list = Command {
         verb: Verb::List,
-        opts: Opts { items: 20_000 },
+        opts: Opts {
+            length: 512,
+            items: 20_000,
+        },
     };
     assert_eq!(rt; read_words(&["list"]), Some(list));
 

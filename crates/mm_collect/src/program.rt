@@ -42,7 +42,7 @@ pub enum End {
 /// How collection is limited.
 #[derive(Clone, Copy, Debug, PartialEq, Eq, Hash)]
 pub struct Opts {
-    /// The greatest length of a type argument of an item. Any number serves.
+    /// The greatest length of an item: the number of constructors in its types, repeats counted. Any number serves.
     pub length: u32,
     /// The greatest number of items of one crate. Any number serves.
     pub items: u32,
@@ -51,7 +51,7 @@ pub struct Opts {
 impl Default for Opts {
     ghost is_default = { λ opts. (opts.length ≡ 512) × (opts.items ≡ 20000) };
 
-    /// Type lengths up to 512 and at most 20,000 items a crate, which are this project's own numbers.
+    /// Items up to length 512 and at most 20,000 items a crate, which are this project's own numbers.
     fn default() -> Opts {
         Opts {
             length: 512,

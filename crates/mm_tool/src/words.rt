@@ -64,27 +64,29 @@ fn number_of(word: &str, name: &str, most: u32) -> Option<u32>
     number(word.strip_prefix(name)?, most)
 }
 
-/// What is given with one more word, where it is an option that was not given before.
-fn with(given: Given, word: &str) -> Option<Given>
-    ensures some { IfSome result (Adds given word.now) }
-    ensures none { result ≡ None → (more : Given) → Adds given word.now more → ⊥ }
-{
-    if let Some(n) = number_of(word, "--length=", LENGTH_MOST) {
-        return match given.length {
+impl Given {
+    /// What is given with one more word, where it is an option that was not given before.
+    fn with(self, word: &str) -> Option<Given>
+        ensures some { IfSome result (Adds self word.now) }
+        ensures none { result ≡ None → (more : Given) → Adds self word.now more → ⊥ }
+    {
+        if let Some(n) = number_of(word, "--length=", LENGTH_MOST) {
+            return match self.length {
+                None => Some(Given {
+                    length: Some(n),
+                    items: self.items,
+                }),
+                Some(_) => None,
+            };
+        }
+        let n = number_of(word, "--items=", ITEMS_MOST)?;
+        match self.items {
             None => Some(Given {
-                length: Some(n),
-                items: given.items,
+                length: self.length,
+                items: Some(n),
             }),
             Some(_) => None,
-        };
-    }
-    let n = number_of(word, "--items=", ITEMS_MOST)?;
-    match given.items {
-        None => Some(Given {
-            length: given.length,
-            items: Some(n),
-        }),
-        Some(_) => None,
+        }
     }
 }
 
@@ -105,7 +107,7 @@ pub fn read_words(words: &[&str]) -> Option<Command>
         items: None,
     };
     for word in options {
-        given = with(given, word)?;
+        given = given.with(word)?;
     }
     let default = Opts::default();
     Some(Command {

@@ -42,15 +42,20 @@ pub enum End {
 /// How collection is limited.
 #[derive(Clone, Copy, Debug, PartialEq, Eq, Hash)]
 pub struct Opts {
+    /// The greatest length of an item: the number of constructors in its types, repeats counted. Any number serves.
+    pub length: u32,
     /// The greatest number of items of one crate. Any number serves.
     pub items: u32,
 }
 
 impl Default for Opts {
-    ghost is_default = { λ opts. opts.items ≡ 20000 };
+    ghost is_default = { λ opts. (opts.length ≡ 512) × (opts.items ≡ 20000) };
 
-    /// At most 20,000 items a crate, which is this project's own number.
+    /// Items up to length 512 and at most 20,000 items a crate, which are this project's own numbers.
     fn default() -> Opts {
-        Opts { items: 20_000 }
+        Opts {
+            length: 512,
+            items: 20_000,
+        }
     }
 }

@@ -135,7 +135,11 @@ fn holds(alloc: Global, row: &Row) -> Result<bool, NoMemory> {
         functions.push(function)?;
     }
     let p = program(alloc, functions, row.main)?;
-    let holds = match collect(alloc, &p, &Opts { items: row.limit }) {
+    let opts = Opts {
+        length: 512,
+        items: row.limit,
+    };
+    let holds = match collect(alloc, &p, &opts) {
         Ok(items) => match row.found {
             Some(found) => are_functions(items.as_slice(), found),
             None => false,
@@ -166,9 +170,13 @@ fn collects_a_long_chain(rt: HostRuntime) -> Result<(), Fail> {
     let p = program(alloc, functions, 0)?;
     let items = collect(alloc, &p, &Opts::default())?;
     assert_eq!(rt; items.len(), 2_000);
+    let fewer = Opts {
+        length: 512,
+        items: 1_999,
+    };
     assert!(rt;
         matches!(
-            collect(alloc, &p, &Opts { items: 1_999 }),
+            collect(alloc, &p, &fewer),
             Err(CollectFault::TooMany(1_999))
         )
     );

@@ -1,3 +1,5 @@
+pub mod CommandLines
+pub mod CommandNumbers
 pub mod Givens
 pub mod GrammarReads
 pub mod LexFrontLaws

@@ -8,6 +8,7 @@ use Rattle.mm_collect.specs.Roots.{roots_of}
 use Rattle.mm_collect.specs.Uses.{uses_of}
 use Rattle.mm_tool.specs.Listing.{line_of, ended}
 use Rattle.mm_tool.specs.Report.{IsListed, IsTooMany, IsAnswer, IsReport}
+use Rattle.mm_tool.proofs.CommandLines.{command_one}
 use Rattle.mm_tool.proofs.Meanings.{meaning_one}
 use Rattle.mm_tool.proofs.OneOrder.{sorted_one}
 
@@ -44,7 +45,7 @@ answer_one text opts s t a b (inr one) (inr other) = (one.status_is ∙ sym othe
 
 pub report_one : (words : List (List ℕ)) (text : List ℕ) (s t : ℕ) (a b : List ℕ) → IsReport words text s a → IsReport words text t b → Same s t a b
 report_one words text s t a b (inl one) (inl other) =
-    let same : one.command ≡ other.command = one.words_are.is ∙ sym other.words_are.is in
+    let same : one.command ≡ other.command = command_one words one.command other.command one.words_are other.words_are in
     answer_one text other.command.opts s t a b (subst (λ c. IsAnswer text c.opts s a) same one.answer) other.answer
 report_one words text s t a b (inl one) (inr other) = absurd (other.none one.command one.words_are)
 report_one words text s t a b (inr one) (inl other) = absurd (one.none other.command other.words_are)

@@ -13,4 +13,5 @@ pub mod Meaning
 pub mod Parsing
 pub mod Reading
 pub mod Report
+pub mod WordReading
 pub mod Words

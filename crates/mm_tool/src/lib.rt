@@ -18,7 +18,7 @@ pub use answer::{Answer, answer_to, one_meaning, read_program};
 pub use listing::{item_text, list_items};
 pub use text_error::TextError;
 pub use tool::{TEXT_LIMIT, one_report, tool_one};
-pub use words::{Command, Verb, read_words};
+pub use words::{Command, Verb, one_command, read_words};
 
 #[cfg(test)]
 mod tests;

@@ -26,12 +26,6 @@ fn answer(alloc: Global, words: &[&str], text: &[u8]) -> Result<(u8, Vec<u8>), N
 #[test]
 fn one_function_passes_each_call(rt: HostRuntime) -> Result<(), Fail> {
     let alloc = rt.alloc();
-    let list = Command {
-        verb: Verb::List,
-        opts: Opts { items: 20_000 },
-    };
-    assert_eq!(rt; read_words(&["list"]), Some(list));
-
     let tokens = lex(alloc, ONE_FUNCTION)?;
     let tree = parse(alloc, &tokens)?;
     assert_eq!(rt; tree.name.as_slice(), b"app".as_slice());
@@ -56,17 +50,66 @@ fn one_function_passes_each_call(rt: HostRuntime) -> Result<(), Fail> {
 }
 
 #[test]
-fn words_are_list_alone(rt: HostRuntime) -> Result<(), Fail> {
+fn words_are_list_and_options(rt: HostRuntime) -> Result<(), Fail> {
+    let rows: [(&[&str], u32, u32); 9] = [
+        (&["list"], 512, 20_000),
+        (&["list", "--items=3"], 512, 3),
+        (&["list", "--length=3"], 3, 20_000),
+        (&["list", "--length=1", "--items=1"], 1, 1),
+        (&["list", "--items=1", "--length=1"], 1, 1),
+        (&["list", "--length=2048"], 2_048, 20_000),
+        (&["list", "--items=131072"], 512, 131_072),
+        (&["list", "--items=20000", "--length=512"], 512, 20_000),
+        (&["list", "--items=109"], 512, 109),
+    ];
+    for (words, length, items) in rows {
+        let command = Command {
+            verb: Verb::List,
+            opts: Opts { length, items },
+        };
+        assert_eq!(rt; read_words(words), Some(command), "{words:?}");
+    }
+    Ok(())
+}
+
+#[test]
+fn other_words_are_bad(rt: HostRuntime) -> Result<(), Fail> {
     let alloc = rt.alloc();
-    let rows: [&[&str]; 8] = [
+    let rows: [&[&str]; 34] = [
         &[],
         &[""],
         &["frob"],
         &["List"],
         &["list "],
         &["list", "list"],
-        &["list", "--items=3"],
+        &["list", ""],
         &["frob", "list"],
+        &["--items=5", "list"],
+        &["--items=5"],
+        &["list", "--items"],
+        &["list", "--items", "5"],
+        &["list", "--items="],
+        &["list", "--items=0"],
+        &["list", "--items=00"],
+        &["list", "--items=01"],
+        &["list", "--items=+5"],
+        &["list", "--items=-5"],
+        &["list", "--items= 5"],
+        &["list", "--items=5 "],
+        &["list", "--items=5x"],
+        &["list", "--items=٥"],
+        &["list", "--items =5"],
+        &["list", "--ITEMS=5"],
+        &["list", "-items=5"],
+        &["list", "items=5"],
+        &["list", "--items=131073"],
+        &["list", "--items=4294967301"],
+        &["list", "--items=99999999999999999999999"],
+        &["list", "--items=5", "--items=5"],
+        &["list", "--length=5", "--items=5", "--length=6"],
+        &["list", "--length=0"],
+        &["list", "--length=2049"],
+        &["list", "--workers=1"],
     ];
     for words in rows {
         let mut source = BytesSource::new(ONE_FUNCTION.to_vec(alloc)?, 5, Vec::new(alloc));
@@ -85,6 +128,27 @@ fn words_are_list_alone(rt: HostRuntime) -> Result<(), Fail> {
         assert_eq!(rt; source.read(&mut front), Ok(5), "{words:?}");
         assert_eq!(rt; front, *b"crate", "{words:?}");
     }
+    Ok(())
+}
+
+#[test]
+fn the_words_limit_the_items(rt: HostRuntime) -> Result<(), Fail> {
+    let alloc = rt.alloc();
+    let text =
+        b"crate app; fn p() { bb0: { return } } fn q() { bb0: { return } } fn main() { bb0: { call _0 = app::p() -> bb1 } bb1: { call _0 = app::q() -> bb2 } bb2: { return } }";
+    let (status, output) = answer(alloc, &["list", "--items=2"], text)?;
+    assert_eq!(rt; status, 5);
+    assert_eq!(rt;
+        output.as_slice(),
+        b"error: more than 2 items in crate app\n".as_slice()
+    );
+
+    let (status, output) = answer(alloc, &["list", "--items=3"], text)?;
+    assert_eq!(rt; status, 0);
+    assert_eq!(rt;
+        output.as_slice(),
+        b"MONO_ITEM fn app::main\nMONO_ITEM fn app::p\nMONO_ITEM fn app::q\n".as_slice()
+    );
     Ok(())
 }
 

@@ -1,6 +1,6 @@
 ghost use Rattle.std.specs.Prelude.{◌≡◌};
 
-use mm_terms::{DefId, Text};
+use mm_terms::{DefId, Text, Ty, Tys};
 use sqlite_items::Items;
 
 /// A program of one crate.
@@ -14,13 +14,18 @@ pub struct Program {
     pub main: DefId,
 }
 
-/// A function without type parameters.
+/// A function. In its types, parameter i stands for its i-th type parameter.
 #[derive(Debug, Drop)]
 pub struct Function {
     /// Whether other crates can name it.
     pub is_pub: bool,
     /// The crate's name, `::`, and the function's own name.
     pub path: Text,
+    /// The number of type parameters. A function that has some is generic.
+    pub type_params: u32,
+    /// The types of the parameters.
+    pub params: Tys,
+    pub result: Ty,
     /// The body: a run of it begins at the first block.
     pub blocks: Items<Block>,
 }
@@ -35,8 +40,30 @@ pub struct Block {
 #[derive(Debug, Drop)]
 pub enum End {
     Return,
-    /// Calls the function, and then goes on at the block with the label.
-    Call(DefId, u32),
+    Call(Call),
+}
+
+/// A call of a function. Its result goes into local 0.
+#[derive(Debug, Drop)]
+pub struct Call {
+    pub callee: DefId,
+    /// The type arguments of the callee, in which the caller's type parameters may stand.
+    pub args: Tys,
+    /// What is handed to the callee's parameters, one by one.
+    pub operands: Items<Operand>,
+    /// The block with which the caller goes on.
+    pub target: u32,
+}
+
+/// A value that is handed on. Local 0 is the result, and the parameters follow.
+#[derive(Clone, Copy, Debug, PartialEq, Eq, Hash)]
+pub enum Operand {
+    /// A copy of a local.
+    Copy(u32),
+    /// A local, which has no value afterwards.
+    Move(u32),
+    Number(u64),
+    Bool(bool),
 }
 
 /// How collection is limited.

@@ -1,21 +1,62 @@
-//! The tree of a text: what is written, before any name is looked up.
+//! The tree of a text: what is written, and where, before any name is looked up.
 
+use crate::lex::Place;
 use mm_terms::Text;
 use sqlite_items::Items;
 
 /// A crate as it is written.
 #[derive(Debug, Drop)]
 pub struct Crate {
+    /// The place of the word `crate`.
+    pub at: Place,
     pub name: Text,
     pub functions: Items<Function>,
 }
 
+/// A name, and its place.
+#[derive(Debug, Drop)]
+pub struct Name {
+    pub at: Place,
+    pub text: Text,
+}
+
 #[derive(Debug, Drop)]
 pub struct Function {
+    /// The place of its first token: `pub` where that is written, and else `fn`.
+    pub at: Place,
     pub is_pub: bool,
-    pub name: Text,
+    pub name: Name,
+    pub type_params: Items<Name>,
+    /// The types of the parameters.
+    pub params: Items<Type>,
+    /// The type of the result, where one is written. Where none is, it is `()`.
+    pub result: Option<Type>,
     /// The blocks of its body, at least one. The k-th, from 0, has the label `bb` k.
     pub blocks: Items<Block>,
+}
+
+/// A type as it is written. Each head has as many children as it takes.
+#[derive(Debug, Drop)]
+pub struct Type {
+    /// The place of its first token.
+    pub at: Place,
+    pub head: Head,
+    pub children: Items<Type>,
+}
+
+/// What stands at the head of a type.
+#[derive(Debug, Drop)]
+pub enum Head {
+    /// A type parameter, by its name.
+    Param(Text),
+    U64,
+    Bool,
+    /// A tuple of no types, or of at least two.
+    Tuple,
+    /// `&`
+    Ref,
+    /// `Box`
+    Boxed,
 }
 
 /// A basic block.
@@ -31,16 +72,44 @@ pub enum End {
     Call(Call),
 }
 
-/// A call, and the block that the caller goes on with.
+/// A call, and the block that the caller goes on with. The result goes into `_0`.
 #[derive(Debug, Drop)]
 pub struct Call {
     pub callee: Path,
-    pub target: u32,
+    /// The type arguments of the callee.
+    pub args: Items<Type>,
+    pub operands: Items<Operand>,
+    pub target: Label,
 }
 
 /// A path from a crate's name through at least one more name.
 #[derive(Debug, Drop)]
 pub struct Path {
+    /// The place of its first name.
+    pub at: Place,
     pub krate: Text,
     pub names: Items<Text>,
+}
+
+/// A local of a body, and the place where it is named.
+#[derive(Clone, Copy, Debug, PartialEq, Eq)]
+pub struct Local {
+    pub at: Place,
+    pub number: u32,
+}
+
+/// A block of a body, and the place where it is named.
+#[derive(Clone, Copy, Debug, PartialEq, Eq)]
+pub struct Label {
+    pub at: Place,
+    pub number: u32,
+}
+
+/// What is handed to a call.
+#[derive(Clone, Copy, Debug, PartialEq, Eq)]
+pub enum Operand {
+    Copy(Local),
+    Move(Local),
+    Number(u64),
+    Bool(bool),
 }

@@ -1,3 +1,0 @@
-mod RootLemmas
-mod GrowthLemmas
-mod ClosingLemmas

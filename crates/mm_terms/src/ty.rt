@@ -62,6 +62,13 @@ impl Ty {
         })
     }
 
+    /// The type as its tree.
+    pub fn as_tree(&self) -> &Tree
+        ensures { result.now ≡ self.now }
+    {
+        &self.tree
+    }
+
     pub fn head(&self) -> TyHead
         ensures { result ≡ head_of self.now }
     {

@@ -1,28 +1,23 @@
 -- The listing of a program's items.
-use Rattle.std.specs.Prelude.{◌≡◌, ℕ, List, [], ◌∷◌, ◌++◌, map, flat_map, codes, Option, Some, None, slice_get}
+use Rattle.std.specs.Prelude.{◌≡◌, ℕ, List, [], ◌∷◌, ◌++◌, map, flat_map, codes}
 use Rattle.std.specs.List.Sorted.{IsPermutation, IsSorted}
 use Rattle.std.specs.Cmp.Lexicographic.{slice_cmp}
 use Rattle.std.specs.Ordering.{nat_cmp}
-use Rattle.mm_terms.specs.declared.ids.DefId.{DefId}
 use Rattle.mm_terms.specs.declared.item.Item.{Item}
 use Rattle.mm_terms.specs.declared.item.Item.TheVariants.{Fn, Glue, Shim, Static}
 use Rattle.mm_collect.specs.declared.program.Program.{Program}
-use Rattle.mm_collect.specs.declared.program.Function.{Function}
+use Rattle.mm_tool.specs.TypeText.{path_of, type_text}
 
-abbrev pub function_path : Option Function → List ℕ
-function_path None = []
-function_path (Some f) = f.path
+-- the type arguments of an item, with a comma and a blank between two; without any there are no brackets
+abbrev pub item_args_text : List (List ℕ) → List ℕ
+item_args_text [] = []
+item_args_text (text ∷ texts) = codes "<" ++ text ++ flat_map (λ next. codes ", " ++ next) texts ++ codes ">"
 
--- the path of a definition
-abbrev pub path_of : Program → DefId → List ℕ
-path_of p d = function_path (slice_get p.functions d.0)
-
--- the text of an item; plain functions are the only items of this language
 abbrev pub item_text : Program → Item → List ℕ
-item_text p (Fn d args) = codes "fn " ++ path_of p d
-item_text p (Glue t) = []
-item_text p (Shim t) = []
-item_text p (Static d) = []
+item_text p (Fn d args) = codes "fn " ++ path_of p d ++ item_args_text (map (type_text p) args)
+item_text p (Glue t) = codes "glue " ++ type_text p t
+item_text p (Shim t) = codes "shim " ++ type_text p t
+item_text p (Static d) = codes "static " ++ path_of p d
 
 abbrev pub line_of : Program → Item → List ℕ
 line_of p x = codes "MONO_ITEM " ++ item_text p x

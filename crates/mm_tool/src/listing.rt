@@ -1,41 +1,71 @@
-ghost use Rattle.std.specs.Prelude.{◌≡◌, map, IfOk};
+ghost use Rattle.std.specs.Prelude.{◌≡◌, ◌++◌, map, IfOk, OnOk};
 ghost use Rattle.std.specs.List.Sorted.{IsPermutation, IsSorted};
 ghost use Rattle.std.specs.Cmp.Lexicographic.{slice_cmp};
 ghost use Rattle.std.specs.Ordering.{nat_cmp};
-ghost use Rattle.mm_tool.specs.Listing.{path_of, item_text, line_of, ended, IsListing};
+ghost use Rattle.mm_tool.specs.Listing.{item_args_text, item_text, line_of, ended, IsListing};
+ghost use Rattle.mm_tool.specs.TypeText.{type_text};
 
+use crate::type_texts::{path, write_type};
 use mm_collect::Program;
-use mm_terms::{DefId, Item, NoMemory};
+use mm_terms::{Item, NoMemory, Ty};
 use std::alloc::Global;
 
-/// The path of a definition; empty where there is none.
-fn path(p: &Program, d: DefId) -> &[u8]
-    ensures { result.now ≡ path_of p.now d }
+/// Writes the type arguments of an item.
+fn write_item_args(p: &Program, args: &[Ty], out: &mut Vec<u8>) -> Result<(), NoMemory>
+    ensures { OnOk result (out.new.items ≡ out.old.items ++ item_args_text (map (type_text p.now) args.now)) }
 {
-    match p.functions.get(d.0 as usize) {
-        Some(function) => function.path.as_slice(),
-        None => &[],
+    let Some((first, others)) = args.split_first() else {
+        return Ok(());
+    };
+    out.push(b'<')?;
+    write_type(p, first.as_tree(), out)?;
+    for ty in others {
+        out.extend_from_slice(b", ")?;
+        write_type(p, ty.as_tree(), out)?;
+    }
+    out.push(b'>')?;
+    Ok(())
+}
+
+/// Writes the text of an item behind what is there.
+fn write_item(p: &Program, item: &Item, out: &mut Vec<u8>) -> Result<(), NoMemory>
+    ensures { OnOk result (out.new.items ≡ out.old.items ++ item_text p.now item.now) }
+{
+    match item {
+        Item::Fn(d, args) => {
+            out.extend_from_slice(b"fn ")?;
+            out.extend_from_slice(path(p, *d))?;
+            write_item_args(p, args.as_slice(), out)
+        }
+        Item::Glue(ty) => {
+            out.extend_from_slice(b"glue ")?;
+            write_type(p, ty.as_tree(), out)
+        }
+        Item::Shim(ty) => {
+            out.extend_from_slice(b"shim ")?;
+            write_type(p, ty.as_tree(), out)
+        }
+        Item::Static(d) => {
+            out.extend_from_slice(b"static ")?;
+            out.extend_from_slice(path(p, *d))
+        }
     }
 }
 
-/// The text of an item, as in `fn app::main`.
+/// The text of an item, as in `fn app::pair<u64, (u64, bool)>`.
 pub fn item_text(alloc: Global, p: &Program, item: &Item) -> Result<Vec<u8>, NoMemory>
     ensures { IfOk result (λ text. text.items ≡ item_text p.now item.now) }
 {
-    let Item::Fn(d, _) = item else {
-        return Ok(Vec::new(alloc));
-    };
-    let mut text = Vec::from_slice(alloc, b"fn ")?;
-    text.extend_from_slice(path(p, *d))?;
-    Ok(text)
+    let mut out = Vec::new(alloc);
+    write_item(p, item, &mut out)?;
+    Ok(out)
 }
 
 fn line(alloc: Global, p: &Program, item: &Item) -> Result<Vec<u8>, NoMemory>
     ensures { IfOk result (λ line. line.items ≡ line_of p.now item.now) }
 {
     let mut line = Vec::from_slice(alloc, b"MONO_ITEM ")?;
-    let text = item_text(alloc, p, item)?;
-    line.extend_from_slice(&text)?;
+    write_item(p, item, &mut line)?;
     Ok(line)
 }
 

@@ -1,0 +1,13 @@
+use mm_terms::Text;
+
+/// Why a program is not collected.
+#[derive(Debug, Drop)]
+pub enum CollectFault {
+    /// The program needs more items than the limit, which is given.
+    TooMany(u32),
+    /// An instance is longer than the limit on lengths of types: its path, and its length.
+    TypeLength(Text, u32),
+    /// An instance is missing, which is given as text.
+    NoImpl(Text),
+    NoMemory,
+}

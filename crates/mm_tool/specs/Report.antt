@@ -1,0 +1,97 @@
+-- The answer to a command line and a text: the status, and the bytes that are written.
+use Rattle.std.specs.Prelude.{◌≡◌, ◌≢◌, ℕ, ◌≤◌, ◌⊎◌, List, [], ◌∷◌, ◌++◌, length, codes, decimal}
+use Rattle.std.specs.declared.option.Option.{Option}
+use Rattle.std.specs.Io.KnownBytes.{Appends}
+use Rattle.mm_outside.specs.Whole.{WritesFront}
+use Rattle.mm_terms.specs.declared.item.Item.{Item}
+use Rattle.mm_terms.specs.Closure.{AreMembers, HasMoreThan}
+use Rattle.mm_collect.specs.declared.program.Program.{Program}
+use Rattle.mm_collect.specs.declared.program.Opts.{Opts}
+use Rattle.mm_collect.specs.Roots.{roots_of}
+use Rattle.mm_collect.specs.Uses.{uses_of}
+use Rattle.mm_tool.specs.declared.ast.Crate.{Crate}
+use Rattle.mm_tool.specs.declared.lex.token.Token.{Token}
+use Rattle.mm_tool.specs.declared.words.Command.{Command}
+use Rattle.mm_tool.specs.LexText.{AreTokensOf}
+use Rattle.mm_tool.specs.Grammar as grammar
+use Rattle.mm_tool.specs.Meaning.{IsProgram}
+use Rattle.mm_tool.specs.Listing.{IsListing}
+use Rattle.mm_tool.specs.Words.{AreWords, IsNoCommand}
+
+-- A text means a program: its tokens spell a tree, and the tree means the program.
+pub record Means (text : List ℕ) (program : Program) : Type 0 where
+  pub tokens : List Token
+  pub lexed : AreTokensOf text tokens
+  pub tree : Crate
+  pub spelled : grammar.text tree tokens
+  pub loaded : IsProgram tree program
+
+-- a line for a person, ended by LF
+abbrev pub line : List ℕ → List ℕ
+line text = text ++ 10 ∷ []
+
+-- no more items than the limit: they are listed
+pub record IsListed (p : Program) (opts : Opts) (status : ℕ) (output : List ℕ) : Type 0 where
+  pub status_is : status ≡ 0
+  pub items : List Item
+  pub members : AreMembers (roots_of p) (uses_of p) items
+  pub within : length items ≤ opts.items
+  pub listed : IsListing p items output
+
+-- more items than the limit
+pub record IsTooMany (p : Program) (opts : Opts) (status : ℕ) (output : List ℕ) : Type 0 where
+  pub status_is : status ≡ 5
+  pub more : HasMoreThan (roots_of p) (uses_of p) opts.items
+  pub output_is : output ≡ line (codes "error: more than " ++ decimal opts.items ++ codes " items in crate " ++ p.krate)
+
+-- the text means no program
+pub record IsBadText (text : List ℕ) (status : ℕ) (output : List ℕ) : Type 0 where
+  pub status_is : status ≡ 3
+  pub none : (p : Program) → Means text p → ⊥
+  pub output_is : output ≡ line (codes "error: bad text")
+
+-- the text means a program, and this is the verdict on it
+pub record IsJudged (text : List ℕ) (opts : Opts) (status : ℕ) (output : List ℕ) : Type 0 where
+  pub program : Program
+  pub means : Means text program
+  pub verdict : IsListed program opts status output ⊎ IsTooMany program opts status output
+
+-- the answer to a text
+abbrev pub IsAnswer : List ℕ → Opts → ℕ → List ℕ → Type 0
+IsAnswer text opts status output = IsJudged text opts status output ⊎ IsBadText text status output
+
+-- the words are no command line
+pub record IsBadWords (words : List (List ℕ)) (status : ℕ) (output : List ℕ) : Type 0 where
+  pub status_is : status ≡ 2
+  pub none : IsNoCommand words
+  pub output_is : output ≡ line (codes "error: bad words")
+
+pub record IsDone (words : List (List ℕ)) (text : List ℕ) (status : ℕ) (output : List ℕ) : Type 0 where
+  pub command : Command
+  pub words_are : AreWords words command
+  pub answer : IsAnswer text command.opts status output
+
+-- the report of a command line and a text
+abbrev pub IsReport : List (List ℕ) → List ℕ → ℕ → List ℕ → Type 0
+IsReport words text status output = IsDone words text status output ⊎ IsBadWords words status output
+
+-- the statuses that there are
+abbrev pub IsStatus : ℕ → Type 0
+IsStatus status = (status ≡ 0) ⊎ (status ≡ 2) ⊎ (status ≡ 3) ⊎ (status ≡ 5) ⊎ (status ≡ 20) ⊎ (status ≡ 21) ⊎ (status ≡ 22) ⊎ (status ≡ 23)
+
+-- the status is a report's own: no device failed, memory was found, and the text was not too long
+abbrev pub IsSettled : ℕ → Type 0
+IsSettled status = (status ≢ 20) × (status ≢ 21) × (status ≢ 22) × (status ≢ 23)
+
+-- the output of a report with this status was written
+pub record Reports (words : List (List ℕ)) (text : List ℕ) (status : ℕ) (old new : Option (List ℕ)) : Type 0 where
+  pub output : List ℕ
+  pub report : IsReport words text status output
+  pub written : Appends old new output
+
+-- a front of the output of a report was written
+pub record ReportsFront (words : List (List ℕ)) (text : List ℕ) (old new : Option (List ℕ)) : Type 0 where
+  pub status : ℕ
+  pub output : List ℕ
+  pub report : IsReport words text status output
+  pub written : WritesFront old new output

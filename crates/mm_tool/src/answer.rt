@@ -1,0 +1,86 @@
+ghost use Rattle.std.specs.Prelude.{◌≡◌, ℕ, List, ◌∷◌, [], ◌++◌, ◌≤◌, ◌⊎◌, length, codes, decimal, IfOk};
+ghost use Rattle.mm_collect.specs.declared.program.Program.{Program};
+ghost use Rattle.mm_tool.specs.Listing.{IsListing};
+ghost use Rattle.mm_tool.specs.Report.{Means, IsListed, IsTooMany, IsAnswer, line};
+
+use crate::lex::lex;
+use crate::listing::list_items;
+use crate::load::load;
+use crate::parse::parse;
+use crate::text_error::TextError;
+use itoa::Buffer;
+use mm_collect::{CollectFault, Opts, Program, collect};
+use mm_terms::NoMemory;
+use std::alloc::Global;
+
+/// A status, and the bytes that are to be written.
+#[derive(Debug, Drop)]
+pub struct Answer {
+    pub status: u8,
+    pub output: Vec<u8>,
+}
+
+/// The program that a text means.
+///
+/// # Errors
+///
+/// `BadText` exactly where it means none.
+pub fn read_program(alloc: Global, text: &[u8]) -> Result<Program, TextError>
+    requires { length text.now ≤ 4194304 }
+    ensures program { IfOk result (Means text.now) }
+    ensures bad { result ≡ Err TextError.BadText → (p : Program) → Means text.now p → ⊥ }
+{
+    let tokens = lex(alloc, text)?;
+    let tree = parse(alloc, &tokens)?;
+    load(alloc, &tree)
+}
+
+/// A text means one program.
+pub fn one_meaning()
+    ensures { (text : List ℕ) (p q : Program) → Means text p → Means text q → p ≡ q }
+{}
+
+/// The line of a refusal of too many items.
+fn too_many(alloc: Global, items: u32, krate: &[u8]) -> Result<Vec<u8>, NoMemory>
+    ensures { IfOk result (λ output. output.items ≡ line (codes "error: more than " ++ decimal items ++ codes " items in crate " ++ krate.now)) }
+{
+    let mut buffer = Buffer::new();
+    let mut output = Vec::from_slice(alloc, b"error: more than ")?;
+    output.extend_from_slice(buffer.format(items).as_bytes())?;
+    output.extend_from_slice(b" items in crate ")?;
+    output.extend_from_slice(krate)?;
+    output.push(b'\n')?;
+    Ok(output)
+}
+
+/// The verdict on a program: the listing of its items, or that there are too many.
+fn judge(alloc: Global, p: &Program, opts: &Opts) -> Result<Answer, NoMemory>
+    ensures { IfOk result (λ answer. IsListed p.now opts.now answer.status answer.output.items ⊎ IsTooMany p.now opts.now answer.status answer.output.items) }
+{
+    match collect(alloc, p, opts) {
+        Ok(items) => Ok(Answer {
+            status: 0,
+            output: list_items(alloc, p, items.as_slice())?,
+        }),
+        Err(CollectFault::TooMany(items)) => Ok(Answer {
+            status: 5,
+            output: too_many(alloc, items, p.krate.as_slice())?,
+        }),
+        Err(_) => Err(NoMemory),
+    }
+}
+
+/// The answer to a text under these options.
+pub fn answer_to(alloc: Global, text: &[u8], opts: &Opts) -> Result<Answer, NoMemory>
+    requires { length text.now ≤ 4194304 }
+    ensures { IfOk result (λ answer. IsAnswer text.now opts.now answer.status answer.output.items) }
+{
+    match read_program(alloc, text) {
+        Ok(p) => judge(alloc, &p, opts),
+        Err(TextError::BadText) => Ok(Answer {
+            status: 3,
+            output: Vec::from_slice(alloc, b"error: bad text\n")?,
+        }),
+        Err(TextError::NoMemory) => Err(NoMemory),
+    }
+}

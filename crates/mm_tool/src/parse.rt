@@ -1,0 +1,7 @@
+//! Reading tokens into a tree. Each function reads one part from the front, as its rule in the grammar says.
+
+mod body;
+mod krate;
+mod pieces;
+
+pub use krate::{one_tree, parse};

@@ -1,0 +1,153 @@
+ghost use Rattle.std.specs.Prelude.{◌≡◌, [], ◌∷◌, MatchOption, eqb};
+ghost use Rattle.mm_tool.specs.Codes.{word_code};
+ghost use Rattle.mm_tool.specs.Given.{Gives};
+ghost use Rattle.mm_tool.specs.Parsing.{is_word, is_mark, is_local, is_label, is_any_label, starts, past, name_in, label_in};
+
+use crate::lex::{Mark, Token, TokenKind, Word};
+use crate::text_error::TextError;
+use mm_terms::Text;
+use std::alloc::Global;
+
+/// The first token and the others.
+fn next(tokens: &[Token]) -> Option<(&Token, &[Token])>
+    ensures { MatchOption result (tokens.now ≡ []) (λ p. tokens.now ≡ p.0.now ∷ p.1.now) }
+{
+    tokens.split_first()
+}
+
+fn same_word(found: Word, word: Word) -> bool
+    ensures { result ≡ eqb (word_code found) (word_code word) }
+{
+    found == word
+}
+
+impl TokenKind {
+    fn is_word(&self, word: Word) -> bool
+        ensures { result ≡ is_word word self.now }
+    {
+        match self {
+            TokenKind::Word(found) => same_word(*found, word),
+            _ => false,
+        }
+    }
+
+    fn is_mark(&self, mark: Mark) -> bool
+        ensures { result ≡ is_mark mark self.now }
+    {
+        match self {
+            TokenKind::Mark(found) => *found == mark,
+            _ => false,
+        }
+    }
+
+    fn is_local(&self, number: u32) -> bool
+        ensures { result ≡ is_local number self.now }
+    {
+        match self {
+            TokenKind::Local(found) => *found == number,
+            _ => false,
+        }
+    }
+
+    fn is_label(&self, number: usize) -> bool
+        ensures { result ≡ is_label number self.now }
+    {
+        match self {
+            TokenKind::Label(found) => *found as usize == number,
+            _ => false,
+        }
+    }
+
+    fn is_any_label(&self) -> bool
+        ensures { result ≡ is_any_label self.now }
+    {
+        matches!(self, TokenKind::Label(_))
+    }
+}
+
+pub fn starts_word(word: Word, tokens: &[Token]) -> bool
+    ensures { result ≡ starts (is_word word) tokens.now }
+{
+    match next(tokens) {
+        Some((token, _)) => token.kind.is_word(word),
+        None => false,
+    }
+}
+
+pub fn starts_mark(mark: Mark, tokens: &[Token]) -> bool
+    ensures { result ≡ starts (is_mark mark) tokens.now }
+{
+    match next(tokens) {
+        Some((token, _)) => token.kind.is_mark(mark),
+        None => false,
+    }
+}
+
+pub fn starts_label(tokens: &[Token]) -> bool
+    ensures { result ≡ starts is_any_label tokens.now }
+{
+    match next(tokens) {
+        Some((token, _)) => token.kind.is_any_label(),
+        None => false,
+    }
+}
+
+pub fn past_word(word: Word, tokens: &[Token]) -> Result<&[Token], TextError>
+    ensures { Gives (λ rest. rest.now) result (past (is_word word) tokens.now) }
+{
+    match next(tokens) {
+        Some((token, rest)) if token.kind.is_word(word) => Ok(rest),
+        _ => Err(TextError::BadText),
+    }
+}
+
+pub fn past_mark(mark: Mark, tokens: &[Token]) -> Result<&[Token], TextError>
+    ensures { Gives (λ rest. rest.now) result (past (is_mark mark) tokens.now) }
+{
+    match next(tokens) {
+        Some((token, rest)) if token.kind.is_mark(mark) => Ok(rest),
+        _ => Err(TextError::BadText),
+    }
+}
+
+pub fn past_local(number: u32, tokens: &[Token]) -> Result<&[Token], TextError>
+    ensures { Gives (λ rest. rest.now) result (past (is_local number) tokens.now) }
+{
+    match next(tokens) {
+        Some((token, rest)) if token.kind.is_local(number) => Ok(rest),
+        _ => Err(TextError::BadText),
+    }
+}
+
+pub fn past_label(number: usize, tokens: &[Token]) -> Result<&[Token], TextError>
+    ensures { Gives (λ rest. rest.now) result (past (is_label number) tokens.now) }
+{
+    match next(tokens) {
+        Some((token, rest)) if token.kind.is_label(number) => Ok(rest),
+        _ => Err(TextError::BadText),
+    }
+}
+
+pub fn label(tokens: &[Token]) -> Result<(u32, &[Token]), TextError>
+    ensures { Gives (λ x. (x.0, x.1.now)) result (label_in tokens.now) }
+{
+    let Some((token, rest)) = next(tokens) else {
+        return Err(TextError::BadText);
+    };
+    match &token.kind {
+        TokenKind::Label(number) => Ok((*number, rest)),
+        _ => Err(TextError::BadText),
+    }
+}
+
+pub fn name(alloc: Global, tokens: &[Token]) -> Result<(Text, &[Token]), TextError>
+    ensures { Gives (λ x. (x.0, x.1.now)) result (name_in tokens.now) }
+{
+    let Some((token, rest)) = next(tokens) else {
+        return Err(TextError::BadText);
+    };
+    match &token.kind {
+        TokenKind::Name(name) => Ok((Text::from_slice(alloc, name.as_slice())?, rest)),
+        _ => Err(TextError::BadText),
+    }
+}

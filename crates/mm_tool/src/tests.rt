@@ -1,0 +1,308 @@
+use super::*;
+use crate::answer::{answer_to, read_program};
+use crate::lex::lex;
+use crate::load::load;
+use crate::parse::parse;
+use mm_collect::Opts;
+use mm_outside::{BytesSink, BytesSource, NoMemory, Source};
+use mm_terms::{DefId, Item, Tys};
+use std::alloc::Global;
+use std::test::Fail;
+
+/// 40 bytes.
+const ONE_FUNCTION: &[u8] = b"crate app; fn main() { bb0: { return } }";
+
+/// The room of a sink that takes every output of these tests.
+const ROOM: usize = 1_048_576;
+
+/// What the top call answers to the words and a text, and what it writes.
+fn answer(alloc: Global, words: &[&str], text: &[u8]) -> Result<(u8, Vec<u8>), NoMemory> {
+    let mut source = BytesSource::new(text.to_vec(alloc)?, 4096, Vec::new(alloc));
+    let mut sink = BytesSink::new(alloc, 4096, Vec::new(alloc), ROOM)?;
+    let status = tool_one(alloc, words, &mut source, &mut sink);
+    Ok((status, sink.written().to_vec(alloc)?))
+}
+
+#[test]
+fn one_function_passes_each_call(rt: HostRuntime) -> Result<(), Fail> {
+    let alloc = rt.alloc();
+    let tokens = lex(alloc, ONE_FUNCTION)?;
+    let tree = parse(alloc, &tokens)?;
+    assert_eq!(rt; tree.name.as_slice(), b"app".as_slice());
+    let loaded = load(alloc, &tree)?;
+    assert_eq!(rt; loaded.krate.as_slice(), b"app".as_slice());
+
+    let program = read_program(alloc, ONE_FUNCTION)?;
+    let main = Item::Fn(program.main, Tys::new(alloc));
+    assert_eq!(rt; program.main, DefId(0));
+    assert_eq!(rt;
+        item_text(alloc, &program, &main)?.as_slice(),
+        b"fn app::main".as_slice()
+    );
+    let items = vec![in alloc; main]?;
+    let listing = list_items(alloc, &program, &items)?;
+    assert_eq!(rt; listing.as_slice(), b"MONO_ITEM fn app::main\n".as_slice());
+
+    let whole = answer_to(alloc, ONE_FUNCTION, &Opts::default())?;
+    assert_eq!(rt; whole.status, 0);
+    assert_eq!(rt; whole.output, listing);
+    Ok(())
+}
+
+#[test]
+fn words_are_list_and_options(rt: HostRuntime) -> Result<(), Fail> {
+    let rows: [(&[&str], u32, u32); 9] = [
+        (&["list"], 512, 20_000),
+        (&["list", "--items=3"], 512, 3),
+        (&["list", "--length=3"], 3, 20_000),
+        (&["list", "--length=1", "--items=1"], 1, 1),
+        (&["list", "--items=1", "--length=1"], 1, 1),
+        (&["list", "--length=2048"], 2_048, 20_000),
+        (&["list", "--items=131072"], 512, 131_072),
+        (&["list", "--items=20000", "--length=512"], 512, 20_000),
+        (&["list", "--items=109"], 512, 109),
+    ];
+    for (words, length, items) in rows {
+        let command = Command {
+            verb: Verb::List,
+            opts: Opts { length, items },
+        };
+        assert_eq!(rt; read_words(words), Some(command), "{words:?}");
+    }
+    Ok(())
+}
+
+#[test]
+fn other_words_are_bad(rt: HostRuntime) -> Result<(), Fail> {
+    let alloc = rt.alloc();
+    let rows: [&[&str]; 34] = [
+        &[],
+        &[""],
+        &["frob"],
+        &["List"],
+        &["list "],
+        &["list", "list"],
+        &["list", ""],
+        &["frob", "list"],
+        &["--items=5", "list"],
+        &["--items=5"],
+        &["list", "--items"],
+        &["list", "--items", "5"],
+        &["list", "--items="],
+        &["list", "--items=0"],
+        &["list", "--items=00"],
+        &["list", "--items=01"],
+        &["list", "--items=+5"],
+        &["list", "--items=-5"],
+        &["list", "--items= 5"],
+        &["list", "--items=5 "],
+        &["list", "--items=5x"],
+        &["list", "--items=٥"],
+        &["list", "--items =5"],
+        &["list", "--ITEMS=5"],
+        &["list", "-items=5"],
+        &["list", "items=5"],
+        &["list", "--items=131073"],
+        &["list", "--items=4294967301"],
+        &["list", "--items=99999999999999999999999"],
+        &["list", "--items=5", "--items=5"],
+        &["list", "--length=5", "--items=5", "--length=6"],
+        &["list", "--length=0"],
+        &["list", "--length=2049"],
+        &["list", "--workers=1"],
+    ];
+    for words in rows {
+        let mut source = BytesSource::new(ONE_FUNCTION.to_vec(alloc)?, 5, Vec::new(alloc));
+        let mut sink = BytesSink::new(alloc, 5, Vec::new(alloc), 64)?;
+        assert_eq!(rt;
+            tool_one(alloc, words, &mut source, &mut sink),
+            2,
+            "{words:?}"
+        );
+        assert_eq!(rt;
+            sink.written(),
+            b"error: bad words\n".as_slice(),
+            "{words:?}"
+        );
+        let mut front = [0; 5];
+        assert_eq!(rt; source.read(&mut front), Ok(5), "{words:?}");
+        assert_eq!(rt; front, *b"crate", "{words:?}");
+    }
+    Ok(())
+}
+
+#[test]
+fn the_words_limit_the_items(rt: HostRuntime) -> Result<(), Fail> {
+    let alloc = rt.alloc();
+    let text =
+        b"crate app; fn p() { bb0: { return } } fn q() { bb0: { return } } fn main() { bb0: { call _0 = app::p() -> bb1 } bb1: { call _0 = app::q() -> bb2 } bb2: { return } }";
+    let (status, output) = answer(alloc, &["list", "--items=2"], text)?;
+    assert_eq!(rt; status, 5);
+    assert_eq!(rt;
+        output.as_slice(),
+        b"error: more than 2 items in crate app\n".as_slice()
+    );
+
+    let (status, output) = answer(alloc, &["list", "--items=3"], text)?;
+    assert_eq!(rt; status, 0);
+    assert_eq!(rt;
+        output.as_slice(),
+        b"MONO_ITEM fn app::main\nMONO_ITEM fn app::p\nMONO_ITEM fn app::q\n".as_slice()
+    );
+    Ok(())
+}
+
+#[test]
+fn items_are_listed_in_order_of_bytes(rt: HostRuntime) -> Result<(), Fail> {
+    let rows = [
+        ("crate app; fn main() { bb0: { return } }", "app::main"),
+        (
+            "crate main; fn main() { bb0: { call _0 = main::main() -> bb0 } }",
+            "main::main",
+        ),
+        (
+            "crate app; fn unused() { bb0: { return } } fn main() { bb0: { return } } pub fn open() { bb0: { return } }",
+            "app::main app::open",
+        ),
+        (
+            "crate app; fn main() { bb0: { call _0 = app::z() -> bb2 } bb1: { return } bb2: { call _0 = app::z() -> bb1 } } fn a() { bb0: { return } } fn z() { bb0: { call _0 = app::a() -> bb0 } }",
+            "app::a app::main app::z",
+        ),
+        (
+            "crate app; pub fn f2() { bb0: { return } } pub fn é() { bb0: { return } } pub fn f10() { bb0: { return } } pub fn F() { bb0: { return } } pub fn f() { bb0: { return } } fn main() { bb0: { return } }",
+            "app::F app::f app::f10 app::f2 app::main app::é",
+        ),
+    ];
+    let alloc = rt.alloc();
+    for (text, paths) in rows {
+        let mut listing = String::new(alloc);
+        for path in paths.split(' ') {
+            write!(listing, "MONO_ITEM fn {path}\n")?;
+        }
+        let (status, output) = answer(alloc, &["list"], text.as_bytes())?;
+        assert_eq!(rt; status, 0, "{text}");
+        assert_eq!(rt; output.as_slice(), listing.as_bytes(), "{text}");
+    }
+    Ok(())
+}
+
+#[test]
+fn bad_texts_are_refused(rt: HostRuntime) -> Result<(), Fail> {
+    let rows: [&[u8]; 21] = [
+        b"",
+        b"\xff",
+        b"crate app",
+        b"crate app;",
+        b"crate app; fn f() { bb0: { return } }",
+        b"crate app; fn main() { bb0: { return } } fn main() { bb0: { return } }",
+        b"crate app; pub fn f() { bb0: { return } } fn main() { bb0: { return } } fn f() { bb0: { return } }",
+        b"crate app; fn main() { bb0: { return } } }",
+        b"crate app; fn main() { bb0: { return } } crate app;",
+        b"crate app; pub pub fn main() { bb0: { return } }",
+        b"crate app; fn main() -> () { bb0: { return } }",
+        b"crate app; fn main() { }",
+        b"crate app; fn main() { bb1: { return } }",
+        b"crate app; fn main() { bb1: { return } bb0: { return } }",
+        b"crate app; fn main() { bb0: { return } bb0: { return } }",
+        b"crate app; fn main() { bb0: { call _0 = app::gone() -> bb0 } }",
+        b"crate app; fn main() { bb0: { call _0 = lib::main() -> bb0 } }",
+        b"crate app; fn main() { bb0: { call _0 = app::main::main() -> bb0 } }",
+        b"crate app; fn main() { bb0: { call _0 = main() -> bb0 } }",
+        b"crate app; fn main() { bb0: { call _1 = app::main() -> bb0 } }",
+        b"crate app; fn main() { bb0: { call _0 = app::main() -> bb1 } }",
+    ];
+    let alloc = rt.alloc();
+    for (place, text) in rows.iter().enumerate() {
+        let (status, output) = answer(alloc, &["list"], text)?;
+        assert_eq!(rt; status, 3, "{place}");
+        assert_eq!(rt;
+            output.as_slice(),
+            b"error: bad text\n".as_slice(),
+            "{place}"
+        );
+    }
+    Ok(())
+}
+
+#[test]
+fn a_failing_device_is_answered(rt: HostRuntime) -> Result<(), Fail> {
+    let alloc = rt.alloc();
+    let never = u32::MAX;
+    let rows = [
+        (never, never, 64, 0, "MONO_ITEM fn app::main\n"),
+        (never, never, 23, 0, "MONO_ITEM fn app::main\n"),
+        (never, never, 22, 21, "MONO_ITEM fn app::main"),
+        (never, 1, 64, 21, "MONO_"),
+        (never, never, 12, 21, "MONO_ITEM fn"),
+        (never, 0, 64, 21, ""),
+        (0, never, 64, 20, ""),
+        (1, never, 64, 20, ""),
+        (8, never, 64, 20, ""),
+        (9, never, 64, 0, "MONO_ITEM fn app::main\n"),
+    ];
+    for (read, write, room, status, written) in rows {
+        let mut source = BytesSource::new(ONE_FUNCTION.to_vec(alloc)?, 5, [read].to_vec(alloc)?);
+        let mut sink = BytesSink::new(alloc, 5, [write].to_vec(alloc)?, room)?;
+        let answered = tool_one(alloc, &["list"], &mut source, &mut sink);
+        assert_eq!(rt; answered, status, "{read} {write} {room}");
+        assert_eq!(rt; sink.written(), written.as_bytes(), "{read} {write} {room}");
+    }
+    Ok(())
+}
+
+#[test]
+fn a_text_has_at_most_4194304_bytes(rt: HostRuntime) -> Result<(), Fail> {
+    let alloc = rt.alloc();
+    let mut blanks = vec![in alloc; b' '; 4_194_304]?;
+    let (status, output) = answer(alloc, &["list"], &blanks)?;
+    assert_eq!(rt; status, 3);
+    assert_eq!(rt; output.as_slice(), b"error: bad text\n".as_slice());
+
+    blanks.push(b' ')?;
+    let (status, output) = answer(alloc, &["list"], &blanks)?;
+    assert_eq!(rt; status, 23);
+    assert_eq!(rt; output.as_slice(), b"".as_slice());
+    Ok(())
+}
+
+/// A crate whose `main` calls so many functions.
+fn callers(alloc: Global, called: u32) -> Result<String, Fail> {
+    let mut text = String::new(alloc);
+    text.push_str("crate app;\n")?;
+    for function in 0..called {
+        write!(text, "fn f{function}() {{ bb0: {{ return }} }}\n")?;
+    }
+    text.push_str("fn main() {\n")?;
+    for block in 0..called {
+        let next = block + 1;
+        write!(
+            text,
+            "bb{block}: {{ call _0 = app::f{block}() -> bb{next} }}\n"
+        )?;
+    }
+    write!(text, "bb{called}: {{ return }}\n}}\n")?;
+    Ok(text)
+}
+
+#[test]
+fn a_crate_has_at_most_20000_items(rt: HostRuntime) -> Result<(), Fail> {
+    let alloc = rt.alloc();
+    let (status, output) = answer(alloc, &["list"], callers(alloc, 19_999)?.as_bytes())?;
+    assert_eq!(rt; status, 0);
+    assert!(rt;
+        output.starts_with(b"MONO_ITEM fn app::f0\nMONO_ITEM fn app::f1\nMONO_ITEM fn app::f10\n")
+    );
+    assert!(rt; output.ends_with(b"MONO_ITEM fn app::f9999\nMONO_ITEM fn app::main\n"));
+    assert_eq!(rt;
+        output.iter().filter(|byte| **byte == b'\n').count(),
+        20_000
+    );
+
+    let (status, output) = answer(alloc, &["list"], callers(alloc, 20_000)?.as_bytes())?;
+    assert_eq!(rt; status, 5);
+    assert_eq!(rt;
+        output.as_slice(),
+        b"error: more than 20000 items in crate app\n".as_slice()
+    );
+    Ok(())
+}

@@ -1,0 +1,101 @@
+ghost use Rattle.std.specs.Prelude.{◌≡◌, ◌≢◌, ◌⊎◌, ℕ, List, map, IfSome, IfOk, IfErr, OnOk};
+ghost use Rattle.std.specs.Io.KnownBytes.{Appends, IsAtEnd, Keeps};
+ghost use Rattle.mm_outside.specs.Causes.{Rose};
+ghost use Rattle.mm_outside.specs.Whole.{GaveMore, GaveWithin, WritesFront};
+ghost use Rattle.mm_tool.specs.Report.{IsSettled, IsStatus, IsAnswer, IsReport, Reports, ReportsFront};
+ghost use Rattle.mm_tool.specs.Words.{IsCommand, IsNoCommand};
+
+use crate::answer::{Answer, answer_to};
+use crate::words::read_words;
+use mm_collect::Opts;
+use mm_outside::{ReadRefusal, Sink, Source, put_all, read_all};
+use mm_terms::NoMemory;
+use std::alloc::Global;
+
+/// The greatest text that is read, in bytes.
+pub const TEXT_LIMIT: usize = 4_194_304;
+
+/// Writes an output, and gives its status, or 21 where the sink fails.
+fn put<K: Sink>(sink: &mut K, status: u8, output: &[u8]) -> u8
+    requires { status ≢ 21 }
+    ensures whole { result ≢ 21 → (result ≡ status) × Appends (K.written sink.old) (K.written sink.new) output.now }
+    ensures cut { result ≡ 21 → WritesFront (K.written sink.old) (K.written sink.new) output.now }
+    ensures cause { result ≡ 21 → Rose (K.faults sink.old) (K.faults sink.new) }
+{
+    match put_all(sink, output) {
+        Ok(()) => status,
+        Err(_) => 21,
+    }
+}
+
+/// The answer to the text that a source has left, or the status of what failed.
+fn answer_of<S: Source>(alloc: Global, source: &mut S, opts: &Opts) -> Result<Answer, u8>
+    ensures ok { IfOk result (λ answer. IfSome (S.left source.old) (λ text. IsAnswer text opts.now answer.status answer.output.items)) }
+    ensures statuses { IfOk result (λ answer. (answer.status ≡ 0) ⊎ (answer.status ≡ 3) ⊎ (answer.status ≡ 5)) }
+    ensures end { OnOk result (IsAtEnd (S.left source.new)) }
+    ensures failures { IfErr result (λ status. (status ≡ 20) ⊎ (status ≡ 22) ⊎ (status ≡ 23)) }
+    ensures fault { result ≡ Err 20 → Rose (S.faults source.old) (S.faults source.new) }
+    ensures long { result ≡ Err 23 → GaveMore TEXT_LIMIT (S.left source.old) (S.left source.new) }
+    ensures short { result ≢ Err 23 → GaveWithin TEXT_LIMIT (S.left source.old) (S.left source.new) }
+{
+    let text = match read_all(alloc, source, TEXT_LIMIT) {
+        Ok(text) => text,
+        Err(ReadRefusal::ReadFault) => return Err(20),
+        Err(ReadRefusal::TooLong) => return Err(23),
+        Err(ReadRefusal::NoMemory) => return Err(22),
+    };
+    match answer_to(alloc, &text, opts) {
+        Ok(answer) => Ok(answer),
+        Err(NoMemory) => Err(22),
+    }
+}
+
+/// Does what the words ask for, with the text that the source has left, and answers the status.
+///
+/// | status | written | when |
+/// |---|---|---|
+/// | 0 | the listing | the text means a program with no more items than the limit |
+/// | 2 | `error: bad words` | the words are no command line; nothing is read |
+/// | 3 | `error: bad text` | the text means no program |
+/// | 5 | `error: more than <N> items in crate <name>` | the program has more items than the limit |
+/// | 20 | nothing | the source failed |
+/// | 21 | a front of the output | the sink failed |
+/// | 22 | nothing | memory was wanting |
+/// | 23 | nothing | the text has more than [`TEXT_LIMIT`] bytes |
+pub fn tool_one<S: Source, K: Sink>(
+    alloc: Global,
+    words: &[&str],
+    source: &mut S,
+    sink: &mut K,
+) -> u8
+    // Where the source tells its bytes, status and output are those of the report, or a front of the output where the sink fails.
+    ensures report { IfSome (S.left source.old) (λ text. IsSettled result → Reports (map (λ w. w.now) words.now) text result (K.written sink.old) (K.written sink.new)) }
+    ensures cut { IfSome (S.left source.old) (λ text. result ≡ 21 → ReportsFront (map (λ w. w.now) words.now) text (K.written sink.old) (K.written sink.new)) }
+    ensures silent { (result ≡ 20) ⊎ (result ≡ 22) ⊎ (result ≡ 23) → Keeps (K.written sink.old) (K.written sink.new) }
+
+    // When each other answer comes.
+    ensures statuses { IsStatus result }
+    ensures bad_words { result ≡ 2 → IsNoCommand (map (λ w. w.now) words.now) }
+    ensures refused { IsNoCommand (map (λ w. w.now) words.now) → (result ≡ 2) ⊎ (result ≡ 21) }
+    ensures read { result ≡ 20 → Rose (S.faults source.old) (S.faults source.new) }
+    ensures write { result ≡ 21 → Rose (K.faults sink.old) (K.faults sink.new) }
+    ensures long { result ≡ 23 → GaveMore TEXT_LIMIT (S.left source.old) (S.left source.new) }
+    ensures short { result ≢ 23 → GaveWithin TEXT_LIMIT (S.left source.old) (S.left source.new) }
+
+    // What was read: all of the text, or nothing where the words are bad.
+    ensures ended { IsCommand (map (λ w. w.now) words.now) → (result ≢ 20) × (result ≢ 22) × (result ≢ 23) → IsAtEnd (S.left source.new) }
+    ensures unread { IsNoCommand (map (λ w. w.now) words.now) → source.new ≡ source.old }
+{
+    let Some(command) = read_words(words) else {
+        return put(sink, 2, b"error: bad words\n");
+    };
+    match answer_of(alloc, source, &command.opts) {
+        Ok(answer) => put(sink, answer.status, &answer.output),
+        Err(status) => status,
+    }
+}
+
+/// A command line and a text have one report: one status and one output.
+pub fn one_report()
+    ensures { (words : List (List ℕ)) (text : List ℕ) (status other : ℕ) (output others : List ℕ) → IsReport words text status output → IsReport words text other others → (status ≡ other) × (output ≡ others) }
+{}

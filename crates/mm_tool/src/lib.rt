@@ -10,3 +10,6 @@ mod type_texts;
 pub use listing::{item_text, list_items};
 pub use text_error::TextError;
 pub use type_texts::type_text;
+
+#[cfg(test)]
+mod text_tests;

@@ -3,7 +3,7 @@ ghost use Rattle.mm_collect.specs.Roots.{roots_of};
 ghost use Rattle.mm_collect.specs.Uses.{uses_of, notes_of};
 ghost use Rattle.mm_collect.specs.Verdict.{IsAccepted, IsTooLong, IsTooMany};
 
-use crate::closure::{Graph, Scan, Stop, members};
+use crate::closure::{Closed, Graph, Scan, Stop, members};
 use crate::fault::CollectFault;
 use crate::program::{Opts, Program};
 use crate::roots::roots;
@@ -59,8 +59,8 @@ pub fn collect(alloc: Global, p: &Program, opts: &Opts) -> Result<ItemList, Coll
         limit: opts.length,
     };
     match members(alloc, &graph, opts.items as usize) {
-        Ok(all) => match all.over {
-            None => Ok(all.items),
+        Ok(Closed { items, over }) => match over {
+            None => Ok(items),
             Some(over) => Err(CollectFault::TypeLength(over.path, over.length)),
         },
         Err(Stop::TooMany) => Err(CollectFault::TooMany(opts.items)),

@@ -35,8 +35,9 @@ pub fn least_over(one: Option<Over>, other: Option<Over>) -> Option<Over>
     let Some(other) = other else {
         return Some(one);
     };
-    match compare(&other, &one) {
-        Ordering::Less => Some(other),
-        Ordering::Equal | Ordering::Greater => Some(one),
+    if compare(&other, &one).is_lt() {
+        Some(other)
+    } else {
+        Some(one)
     }
 }

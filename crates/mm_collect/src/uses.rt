@@ -7,6 +7,7 @@ ghost use Rattle.mm_collect.specs.Notes.{IsLeast};
 use crate::closure::Scan;
 use crate::over::{Over, least_over};
 use crate::program::{Call, End, Program};
+use mm_subst::{applied_length, apply_all};
 use mm_terms::{DefId, Item, NoMemory, Text, Ty};
 use std::alloc::Global;
 
@@ -33,11 +34,16 @@ fn path(alloc: Global, p: &Program, def: DefId) -> Result<Text, NoMemory>
 fn judge(alloc: Global, p: &Program, limit: u32, args: &[Ty], call: &Call) -> Result<Candidate, NoMemory>
     ensures { IfOk result (Judges p.now limit (called args.now call.now)) }
 {
-    if call.target == 0 {
-        let path = path(alloc, p, call.callee)?;
+    let types = call.args.as_slice();
+    let Some(length) = applied_length(types, args) else {
         return Err(NoMemory);
+    };
+    if length > limit {
+        let path = path(alloc, p, call.callee)?;
+        return Ok(Candidate::Over(Over { path, length }));
     }
-    Err(NoMemory)
+    let args = apply_all(alloc, types, args)?;
+    Ok(Candidate::Within(Item::Fn(call.callee, args)))
 }
 
 /// What an item uses, and the least of what it notes. As in rustc, a call uses an instance of its callee, with the

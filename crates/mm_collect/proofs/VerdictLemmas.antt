@@ -1,5 +1,5 @@
 -- The verdict on a program is one, and how the least of all notes tells it.
-use Rattle.std.proofs.Common.{◌≡◌, ◌≢◌, ℕ, ◌<◌, ◌≤◌, List, [], ◌∷◌, ◌++◌, length, None, Some, All, Contains, refl, sym, ap, subst, ◌∙◌, arith, ⊎_elim}
+use Rattle.std.proofs.Common.{◌≡◌, ◌≢◌, ℕ, ◌<◌, ◌≤◌, List, [], ◌∷◌, ◌++◌, length, None, Some, Err, All, Contains, refl, sym, ap, subst, ◌∙◌, arith, ⊎_elim}
 use Rattle.std.specs.Prelude.{flat_map}
 use Rattle.std.specs.List.Sorted.{IsPermutation}
 use Rattle.std.specs.declared.cmp.Ordering.TheVariants.{Less}
@@ -10,6 +10,9 @@ use Rattle.mm_terms.proofs.ClosureLemmas.{one_verdict, one_closure}
 use Rattle.mm_collect.specs.declared.over.Over.{Over}
 use Rattle.mm_collect.specs.declared.program.Opts.{Opts}
 use Rattle.mm_collect.specs.declared.program.Program.{Program}
+use Rattle.std.specs.declared.result.Result.{Result}
+use Rattle.mm_collect.specs.declared.fault.CollectFault.{CollectFault}
+use Rattle.mm_collect.specs.declared.fault.CollectFault.TheVariants.{TypeLength}
 use Rattle.mm_collect.specs.Notes.{note_cmp, IsLeast}
 use Rattle.mm_collect.specs.Roots.{roots_of}
 use Rattle.mm_collect.specs.Uses.{uses_of, notes_of}
@@ -96,3 +99,19 @@ one_note_told p opts path other n m one two =
 
 pub one_listing : (p : Program) (opts : Opts) (items others : List Item) → IsAccepted p opts items → IsAccepted p opts others → IsPermutation items others
 one_listing p opts items others one two = one_closure (roots_of p) (uses_of p opts.length) items others one.members two.members
+
+-- ---- what an answer tells
+
+told_path : {X : Type 0} → Result X CollectFault → List ℕ
+told_path (Err (TypeLength path n)) = path
+told_path answer = []
+
+told_length : {X : Type 0} → Result X CollectFault → ℕ
+told_length (Err (TypeLength path n)) = n
+told_length answer = 0
+
+-- one answer tells one path and one length
+pub as_told : {X : Type 0} (p : Program) (opts : Opts) (path other : List ℕ) (n m : ℕ) (answer : Result X CollectFault) → answer ≡ Err (TypeLength path n) → answer ≡ Err (TypeLength other m) → IsTooLong p opts path n → IsTooLong p opts other m
+unfolding told_path told_length
+as_told p opts path other n m answer is was long =
+    subst (IsTooLong p opts other) (ap told_length (sym is ∙ was)) (subst (λ bytes. IsTooLong p opts bytes n) (ap told_path (sym is ∙ was)) long)

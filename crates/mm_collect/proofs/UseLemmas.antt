@@ -103,8 +103,8 @@ module _ (p : Program) (limit : ℕ) (args : List Tree) (blocks : List Block) (n
     scanned_over note judged same both = (
       same ∙ scanned.0 ∙ sym (noted_not_used p limit args blocks n block within is call ends judged.0),
       subst (λ notes. IsLeast notes now)
-      (ap (λ y. first_notes p limit args blocks n ++ y ∷ []) judged.1 ∙ sym (one_noted p limit args blocks n block within is call ends judged.0))
-      (both (first_notes p limit args blocks n) (note ∷ []) scanned.1 (least_one note)),
+          (ap (λ y. first_notes p limit args blocks n ++ y ∷ []) judged.1 ∙ sym (one_noted p limit args blocks n block within is call ends judged.0))
+          (both (first_notes p limit args blocks n) (note ∷ []) scanned.1 (least_one note)),
     )
 
 -- past the last block the candidates are all there

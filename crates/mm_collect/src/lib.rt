@@ -14,3 +14,5 @@ pub use collection::collect;
 pub use fault::CollectFault;
 pub use program::{Block, Call, End, Function, Operand, Opts, Program};
 
+#[cfg(test)]
+mod tests;

@@ -31,7 +31,13 @@ fn path(alloc: Global, p: &Program, def: DefId) -> Result<Text, NoMemory>
 }
 
 /// What a call leads to in the instance at the arguments. It is made only where it is within the limit.
-fn judge(alloc: Global, p: &Program, limit: u32, args: &[Ty], call: &Call) -> Result<Candidate, NoMemory>
+fn judge(
+    alloc: Global,
+    p: &Program,
+    limit: u32,
+    args: &[Ty],
+    call: &Call,
+) -> Result<Candidate, NoMemory>
     ensures { IfOk result (Judges p.now limit (called args.now call.now)) }
 {
     let types = call.args.as_slice();

@@ -76,8 +76,8 @@ loop-item-preserved g c =
       c.in_ok-claim_all-2.ensures.within,
       (let more = no_shorter old c.in_ok-scan.scan.used.items new c.in_ok-claim_all-2.ensures.claimed in omega (arith, more, within)),
       subst (λ all. IsLeast all c.least_over-over.result)
-      (sym (noted_more (g.G.Graph.notes c.args.graph.now) old new c.loop-item.next item within is c.in_ok-scan.scan.used.items c.in_ok-claim_all-2.ensures.claimed))
-      (c.least_over-over.ensures (flat_map (g.G.Graph.notes c.args.graph.now) (take c.loop-item.next old)) (g.G.Graph.notes c.args.graph.now item) c.loop-item.invariant.3 c.in_ok-scan.ensures.over),
+          (sym (noted_more (g.G.Graph.notes c.args.graph.now) old new c.loop-item.next item within is c.in_ok-scan.scan.used.items c.in_ok-claim_all-2.ensures.claimed))
+          (c.least_over-over.ensures (flat_map (g.G.Graph.notes c.args.graph.now) (take c.loop-item.next old)) (g.G.Graph.notes c.args.graph.now item) c.loop-item.invariant.3 c.in_ok-scan.ensures.over),
     )
 
 pub returns-clause-members : goal.returns-clause-members

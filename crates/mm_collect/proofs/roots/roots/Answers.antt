@@ -9,14 +9,14 @@ loop-place-preserved c =
     let fs = c.as_slice-function-items.result.now in
     elim c.if-is_root.branch [
       | then-is_root+in_ok-push w ↦
-        ap (λ v. v.items) w.roots-is
-        ∙ w.in_ok-push.ensures.items
-        ∙ (λ i. c.loop-place.invariant i ++ Fn (record { 0 = c.in-Ok.id }) (w.new.ensures i) ∷ [])
-        ∙ sym (one_taken c.args.p.now fs c.loop-place.place c.in-Ok.id c.function-item.result (search rules) (search rules) c.in-Ok.ensures.1 (sym c.is_root.ensures ∙ w.if-is_root.true))
+          ap (λ v. v.items) w.roots-is
+          ∙ w.in_ok-push.ensures.items
+          ∙ (λ i. c.loop-place.invariant i ++ Fn (record { 0 = c.in-Ok.id }) (w.new.ensures i) ∷ [])
+          ∙ sym (one_taken c.args.p.now fs c.loop-place.place c.in-Ok.id c.function-item.result (search rules) (search rules) c.in-Ok.ensures.1 (sym c.is_root.ensures ∙ w.if-is_root.true))
       | else-is_root w ↦
-        ap (λ v. v.items) w.roots-is
-        ∙ c.loop-place.invariant
-        ∙ sym (one_passed c.args.p.now fs c.loop-place.place c.in-Ok.id c.function-item.result (search rules) (search rules) c.in-Ok.ensures.1 (sym c.is_root.ensures ∙ w.if-is_root.false))
+          ap (λ v. v.items) w.roots-is
+          ∙ c.loop-place.invariant
+          ∙ sym (one_passed c.args.p.now fs c.loop-place.place c.in-Ok.id c.function-item.result (search rules) (search rules) c.in-Ok.ensures.1 (sym c.is_root.ensures ∙ w.if-is_root.false))
     ]
 
 pub returns : goal.returns

@@ -1,11 +1,14 @@
 -- The work list of a closure: what is found so far, and the front of it that has been scanned.
 use Rattle.std.proofs.Common.{◌≡◌, ℕ, ◌+◌, ◌<◌, ◌≤◌, List, [], ◌∷◌, ◌++◌, length, take, get_or, All, Contains, true, false, Bool, cond, refl, sym, ap, subst, ◌∙◌, arith}
 use Rattle.std.specs.List.{IsDistinct, list_any}
-use Rattle.std.proofs.lemmas.List.{append_assoc, append-nil, length-append, take_all, take-append-le}
+use Rattle.std.proofs.lemmas.List.{append_assoc, append-nil, length-append, take_all, take_more, take-append-le}
+use Rattle.std.proofs.lemmas.List.Concat.{flat_map-append}
+use Rattle.std.specs.Prelude.{flat_map}
 use Rattle.std.proofs.lemmas.List.Elements.{All-weaker, All-contains, All-append, All-cons, All-nil, All-more, All-same, All-get_or, All-contains_itself}
 use Rattle.indexmap.proofs.CallerLemmas.{Contains-insert_key}
 use Rattle.indexmap.specs.IndexSet.{insert_key, insert_all}
 use Rattle.mm_terms.specs.declared.item.Item.{Item}
+use Rattle.mm_collect.specs.declared.over.Over.{Over}
 use Rattle.mm_terms.specs.Closure.{IsMember, AreMembers}
 use Rattle.mm_terms.specs.Same.{same_item, items_equal}
 use Rattle.mm_terms.proofs.ClosureLemmas.{member_root, member_used, least}
@@ -98,3 +101,19 @@ module _ (roots : List Item) (uses : Item → List Item) where
         each = closing.each;
         all = least roots uses (Contains keys) (λ x root. All-contains (Contains keys) roots x closing.started root) (λ x y has used. All-contains (Contains keys) (uses x) y (All-contains Closed keys x closed has) used);
       }
+
+-- ---- what the scanned items note
+
+module _ (notes : Item → List Over) where
+  -- one more item is scanned
+  pub noted_more : (keys new : List Item) (next : ℕ) (x : Item) → next < length keys → get_or keys next x ≡ x → (xs : List Item) → new ≡ insert_all same_item keys xs → flat_map notes (take (next + 1) new) ≡ flat_map notes (take next keys) ++ notes x
+  noted_more keys new next x within is xs claimed =
+      let more = grown keys xs in
+      let front : take (next + 1) new ≡ take (next + 1) keys = ap (take (next + 1)) (claimed ∙ more.1) ∙ take-append-le (next + 1) keys more.0 (omega arith) in
+      ap (flat_map notes) (front ∙ take_more keys next x within ∙ ap (λ y. take next keys ++ y ∷ []) is)
+      ∙ flat_map-append notes (take next keys) (x ∷ [])
+      ∙ ap (λ last. flat_map notes (take next keys) ++ last) (append-nil (notes x))
+
+  -- all are scanned
+  pub noted_whole : (keys : List Item) (next : ℕ) → length keys ≤ next → flat_map notes (take next keys) ≡ flat_map notes keys
+  noted_whole keys next past = ap (flat_map notes) (take_all next keys past)

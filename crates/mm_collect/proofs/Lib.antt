@@ -1,0 +1,6 @@
+mod RootLemmas
+mod UseLemmas
+mod NoteLemmas
+mod GrowthLemmas
+mod ClosingLemmas
+mod VerdictLemmas

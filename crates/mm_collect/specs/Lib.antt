@@ -1,0 +1,5 @@
+pub mod Uses
+pub mod Candidates
+pub mod Roots
+pub mod Notes
+pub mod Verdict

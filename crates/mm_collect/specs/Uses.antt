@@ -1,34 +1,66 @@
--- What an item uses: the items that its body names.
-use Rattle.std.specs.Prelude.{List, [], ◌∷◌, Option, None, Some, slice_get, flat_map}
-use Rattle.mm_terms.specs.declared.ids.DefId.{DefId}
+-- What an item uses: the instances that its body calls, as far as they are within the limit on lengths.
+use Rattle.std.specs.Prelude.{ℕ, Bool, not, nat_le, List, [], ◌∷◌, Option, None, Some, slice_get, map, filter, flat_map}
+use Rattle.mm_terms.specs.declared.tree.Tree.{Tree}
 use Rattle.mm_terms.specs.declared.item.Item.{Item}
 use Rattle.mm_terms.specs.declared.item.Item.TheVariants.{Fn, Glue, Shim, Static}
+use Rattle.mm_terms.specs.Length.{item_length}
+use Rattle.mm_terms.specs.Substitution.{subst_all}
 use Rattle.mm_collect.specs.declared.program.Program.{Program}
 use Rattle.mm_collect.specs.declared.program.Function.{Function}
-use Rattle.mm_collect.specs.declared.program.Block.{Block}
+use Rattle.mm_collect.specs.declared.program.Call.{Call}
 use Rattle.mm_collect.specs.declared.program.End.{End}
-use Rattle.mm_collect.specs.declared.program.End.TheVariants.{Return, Call}
+use Rattle.mm_collect.specs.declared.program.End.TheVariants as end
+use Rattle.mm_collect.specs.declared.over.Over.{Over}
 
--- the one instance of a function that has no type parameters
-abbrev pub item_of : DefId → Item
-item_of d = Fn d []
+-- the call at the end of a block, where there is one
+abbrev pub end_calls : End → List Call
+end_calls end.Return = []
+end_calls (end.Call call) = call ∷ []
 
--- a call names its callee
-abbrev pub end_uses : End → List Item
-end_uses Return = []
-end_uses (Call callee label) = item_of callee ∷ []
+-- the calls of a body, block by block in order
+abbrev pub calls_of : Function → List Call
+calls_of f = flat_map (λ block. end_calls block.end) f.blocks
 
-abbrev pub block_uses : Block → List Item
-block_uses b = end_uses b.end
+-- what a call leads to in the instance at args: an instance of the callee, at the arguments of the call with args put in
+abbrev pub called : List Tree → Call → Item
+called args call = Fn call.callee (subst_all args call.args)
 
--- block by block, in order of place; a definition that is not there uses nothing
-abbrev pub body_uses : Option Function → List Item
-body_uses None = []
-body_uses (Some f) = flat_map block_uses f.blocks
+-- a function that is not there calls nothing
+abbrev pub body_candidates : List Tree → Option Function → List Item
+body_candidates args None = []
+body_candidates args (Some f) = map (called args) (calls_of f)
 
--- only the instance of a function has a body
-abbrev pub uses_of : Program → Item → List Item
-uses_of p (Fn d args) = body_uses (slice_get p.functions d.0)
-uses_of p (Glue t) = []
-uses_of p (Shim t) = []
-uses_of p (Static d) = []
+-- the candidates for what an item uses: what its calls lead to, in order of place, repeats kept. Only an instance of a function has calls
+abbrev pub candidates_of : Program → Item → List Item
+candidates_of p (Fn d args) = body_candidates args (slice_get p.functions d.0)
+candidates_of p (Glue t) = []
+candidates_of p (Shim t) = []
+candidates_of p (Static d) = []
+
+-- the length is at most the limit
+abbrev pub is_within : ℕ → Item → Bool
+is_within limit x = nat_le (item_length x) limit
+
+-- an item uses its candidates within the limit
+abbrev pub uses_of : Program → ℕ → Item → List Item
+uses_of p limit x = filter (is_within limit) (candidates_of p x)
+
+-- the path of a function, which is empty where there is no function
+abbrev pub function_path : Option Function → List ℕ
+function_path None = []
+function_path (Some f) = f.path
+
+-- the path of the definition that an item is an instance of
+abbrev pub path_of : Program → Item → List ℕ
+path_of p (Fn d args) = function_path (slice_get p.functions d.0)
+path_of p (Glue t) = []
+path_of p (Shim t) = []
+path_of p (Static d) = []
+
+-- the note of an item that is too long
+abbrev pub note_of : Program → Item → Over
+note_of p x = record { path = path_of p x; length = item_length x }
+
+-- an item notes its other candidates, each by its path and its length
+abbrev pub notes_of : Program → ℕ → Item → List Over
+notes_of p limit x = map (note_of p) (filter (λ y. not (is_within limit y)) (candidates_of p x))

@@ -1,10 +1,9 @@
-ghost use Rattle.std.specs.Prelude.{◌≡◌, ◌≢◌, ℕ, ◌≤◌, List, length, IfOk, OnOk};
-ghost use Rattle.mm_terms.specs.declared.item.Item.{Item};
-ghost use Rattle.mm_terms.specs.Closure.{AreMembers, HasMoreThan};
+ghost use Rattle.std.specs.Prelude.{◌≡◌, ◌≢◌, ℕ, List, IfOk};
 ghost use Rattle.mm_collect.specs.Roots.{roots_of};
-ghost use Rattle.mm_collect.specs.Uses.{uses_of};
+ghost use Rattle.mm_collect.specs.Uses.{uses_of, notes_of};
+ghost use Rattle.mm_collect.specs.Verdict.{IsAccepted, IsTooLong, IsTooMany};
 
-use crate::closure::{Graph, Stop, members};
+use crate::closure::{Closed, Graph, Scan, Stop, members};
 use crate::fault::CollectFault;
 use crate::program::{Opts, Program};
 use crate::roots::roots;
@@ -12,42 +11,58 @@ use crate::uses::uses;
 use mm_terms::{Item, ItemList};
 use std::alloc::{AllocError, Global};
 
-impl Graph for Program {
-    ghost roots = { roots_of };
+/// The items of a program, as far as they are within a limit on their lengths.
+#[derive(Clone, Copy)]
+struct Instances<'a> {
+    program: &'a Program,
+    limit: u32,
+}
 
-    ghost uses = { uses_of };
+impl Graph for Instances<'_> {
+    ghost roots = { λ all. roots_of all.program.now };
+
+    ghost uses = { λ all. uses_of all.program.now all.limit };
+
+    ghost notes = { λ all. notes_of all.program.now all.limit };
 
     fn start(&self, alloc: Global) -> Result<Vec<Item>, AllocError> {
-        roots(alloc, self)
+        roots(alloc, self.program)
     }
 
-    fn scan(&self, alloc: Global, item: &Item) -> Result<Vec<Item>, AllocError> {
-        uses(alloc, self, item)
+    fn scan(&self, alloc: Global, item: &Item) -> Result<Scan, AllocError> {
+        uses(alloc, self.program, self.limit, item)
     }
 }
 
 /// The mono items of a program, each once, in order of finding: its roots, and all that a chain of uses leads to from a
-/// root.
+/// root. A use is an instance that a call leads to and that is within the limit on lengths.
 ///
 /// # Errors
-/// `TooMany`, with the limit on items, exactly where the program has more items than that. `NoMemory` may come at any
-/// time. The other faults do not come, since plain functions have no types and no traits.
+/// - `TooMany`, with the limit on items, where the program has more items than that.
+/// - Else `TypeLength`, where a body of an item calls an instance that is longer than the limit on lengths: the least
+///   such instance by the bytes of its path, and then by its length.
+/// - `NoMemory` may come at any time. It also comes where an instance has a length of 2^32 or more.
+///
+/// `NoImpl` does not come, since there are no traits.
 pub fn collect(alloc: Global, p: &Program, opts: &Opts) -> Result<ItemList, CollectFault>
-    // The answer, and its limit.
-    ensures members { IfOk result (AreMembers (roots_of p.now) (uses_of p.now)) }
-    ensures within { IfOk result (λ items. length items ≤ opts.now.items) }
+    // Each answer comes only under its own verdict. No two verdicts hold of one program (`one_verdict`), so each comes
+    // exactly under its own.
+    ensures accepted { IfOk result (IsAccepted p.now opts.now) }
+    ensures too_many { (n : ℕ) → result ≡ Err (CollectFault.TooMany n) → (n ≡ opts.now.items) × IsTooMany p.now opts.now }
+    ensures too_long { (path : List ℕ) (n : ℕ) → result ≡ Err (CollectFault.TypeLength path n) → IsTooLong p.now opts.now path n }
 
-    // `TooMany` comes only where there are more items than the limit, and nothing else is answered there.
-    ensures too_many { (n : ℕ) → result ≡ Err (CollectFault.TooMany n) → (n ≡ opts.now.items) × HasMoreThan (roots_of p.now) (uses_of p.now) n }
-    ensures refused { HasMoreThan (roots_of p.now) (uses_of p.now) opts.now.items → OnOk result ⊥ }
-    ensures accepted { (items : List Item) (n : ℕ) → AreMembers (roots_of p.now) (uses_of p.now) items → length items ≤ opts.now.items → result ≢ Err (CollectFault.TooMany n) }
-
-    // What needs types or traits.
-    ensures no_length { (path : List ℕ) (n : ℕ) → result ≢ Err (CollectFault.TypeLength path n) }
+    // What needs traits.
     ensures no_missing { (text : List ℕ) → result ≢ Err (CollectFault.NoImpl text) }
 {
-    match members(alloc, p, opts.items as usize) {
-        Ok(items) => Ok(items),
+    let graph = Instances {
+        program: p,
+        limit: opts.length,
+    };
+    match members(alloc, &graph, opts.items as usize) {
+        Ok(Closed { items, over }) => match over {
+            None => Ok(items),
+            Some(over) => Err(CollectFault::TypeLength(over.path, over.length)),
+        },
         Err(Stop::TooMany) => Err(CollectFault::TooMany(opts.items)),
         Err(Stop::NoMemory) => Err(CollectFault::NoMemory),
     }

@@ -1,6 +1,18 @@
 //! Collection: which mono items a program needs, and the program that is asked about.
 #![tactic(auto)]
 
+mod closure;
+mod collection;
+mod fault;
+pub mod laws;
+mod over;
 mod program;
+mod roots;
+mod uses;
 
+pub use collection::collect;
+pub use fault::CollectFault;
 pub use program::{Block, Call, End, Function, Operand, Opts, Program};
+
+#[cfg(test)]
+mod tests;

@@ -1,33 +1,78 @@
 ghost use Rattle.std.specs.Prelude.{◌≡◌, IfOk};
-ghost use Rattle.mm_collect.specs.Uses.{item_of, uses_of};
+ghost use Rattle.mm_collect.specs.Uses.{called, function_path, uses_of, notes_of};
+ghost use Rattle.std.specs.Prelude.{slice_get};
+ghost use Rattle.mm_collect.specs.Candidates.{Judges};
+ghost use Rattle.mm_collect.specs.Notes.{IsLeast};
 
-use crate::program::{End, Program};
-use mm_terms::{DefId, Item, NoMemory, Tys};
+use crate::closure::Scan;
+use crate::over::{Over, least_over};
+use crate::program::{Call, End, Program};
+use mm_subst::{applied_length, apply_all};
+use mm_terms::{DefId, Item, NoMemory, Text, Ty};
 use std::alloc::Global;
 
-/// The one instance of a function that has no type parameters.
-pub fn instance(alloc: Global, def: DefId) -> Item
-    ensures { result ≡ item_of def }
-{
-    Item::Fn(def, Tys::new(alloc))
+/// What a call leads to, by its length.
+#[derive(Debug, Drop)]
+enum Candidate {
+    /// It is within the limit, and used.
+    Within(Item),
+    /// It is too long.
+    Over(Over),
 }
 
-/// The items that the body of an item names, in order of place, as often as it names them. As in rustc, a call uses
-/// its callee. An item that has no body uses nothing.
-pub fn uses(alloc: Global, p: &Program, item: &Item) -> Result<Vec<Item>, NoMemory>
-    ensures { IfOk result (λ items. items.items ≡ uses_of p.now item.now) }
+/// The path of a function.
+fn path(alloc: Global, p: &Program, def: DefId) -> Result<Text, NoMemory>
+    ensures { IfOk result (λ path. path ≡ function_path (slice_get p.now.functions def.0)) }
+{
+    match p.functions.get(def.0 as usize) {
+        Some(function) => Text::from_slice(alloc, function.path.as_slice()),
+        None => Ok(Text::new(alloc)),
+    }
+}
+
+/// What a call leads to in the instance at the arguments. It is made only where it is within the limit.
+fn judge(
+    alloc: Global,
+    p: &Program,
+    limit: u32,
+    args: &[Ty],
+    call: &Call,
+) -> Result<Candidate, NoMemory>
+    ensures { IfOk result (Judges p.now limit (called args.now call.now)) }
+{
+    let types = call.args.as_slice();
+    let Some(length) = applied_length(types, args) else {
+        return Err(NoMemory);
+    };
+    if length > limit {
+        let path = path(alloc, p, call.callee)?;
+        return Ok(Candidate::Over(Over { path, length }));
+    }
+    let args = apply_all(alloc, types, args)?;
+    Ok(Candidate::Within(Item::Fn(call.callee, args)))
+}
+
+/// What an item uses, and the least of what it notes. As in rustc, a call uses an instance of its callee, with the
+/// arguments of the item put in. An item that has no body uses nothing.
+pub fn uses(alloc: Global, p: &Program, limit: u32, item: &Item) -> Result<Scan, NoMemory>
+    ensures used { IfOk result (λ scan. scan.used.items ≡ uses_of p.now limit item.now) }
+    ensures over { IfOk result (λ scan. IsLeast (notes_of p.now limit item.now) scan.over) }
 {
     let mut used = Vec::new(alloc);
-    let Item::Fn(def, _) = item else {
-        return Ok(used);
+    let mut over = None;
+    let Item::Fn(def, args) = item else {
+        return Ok(Scan { used, over });
     };
     let Some(function) = p.functions.get(def.0 as usize) else {
-        return Ok(used);
+        return Ok(Scan { used, over });
     };
     for block in function.blocks.as_slice() {
-        if let End::Call(callee, _) = &block.end {
-            used.push(instance(alloc, *callee))?;
+        if let End::Call(call) = &block.end {
+            match judge(alloc, p, limit, args.as_slice(), call)? {
+                Candidate::Within(item) => used.push(item)?,
+                Candidate::Over(note) => over = least_over(over, Some(note)),
+            }
         }
     }
-    Ok(used)
+    Ok(Scan { used, over })
 }

@@ -1,11 +1,13 @@
-use Rattle.std.proofs.Common.{rules, ◌≡◌, ◌<◌, [], ◌++◌, length, get_or, All, Contains, Err, subst, ap, sym, ◌∙◌, arith}
+use Rattle.std.proofs.Common.{rules, ◌≡◌, ◌<◌, [], ◌++◌, length, take, get_or, All, Contains, Err, subst, ap, sym, refl, ◌∙◌, arith}
 use Rattle.std.proofs.lemmas.Result.{err_from_is_err_and}
 use Rattle.std.proofs.lemmas.Option.{get_or_from_slice_get}
 use Rattle.indexmap.specs.IndexSet.{insert_all}
 use Rattle.mm_terms.specs.Closure.{AreMembers}
 use Rattle.mm_terms.specs.Same.{same_item}
 use Rattle.mm_collect.specs.declared.closure.Stop.TheVariants.{TooMany}
-use Rattle.mm_collect.proofs.ClosingLemmas.{begun, members_first, members_still, no_shorter, scanned, whole}
+use Rattle.std.specs.Prelude.{flat_map}
+use Rattle.mm_collect.specs.Notes.{IsLeast}
+use Rattle.mm_collect.proofs.ClosingLemmas.{begun, members_first, members_still, no_shorter, scanned, whole, noted_more, noted_whole}
 use Rattle.mm_collect.proofs.closure.members.Goals as goal
 
 pub loop-item-init : goal.loop-item-init
@@ -18,6 +20,7 @@ loop-item-init g c =
       begun roots (g.G.Graph.uses c.args.graph.now) keys among (c.in_ok-claim_all.ensures.claimed ∙ (λ i. insert_all same_item (empty i) (given i))),
       c.in_ok-claim_all.ensures.within,
       omega arith,
+      refl,
     )
 
 pub returns-in_err-claim_all-clause-too_many : goal.returns-in_err-claim_all-clause-too_many
@@ -44,7 +47,7 @@ returns-in_err-claim_all-2-clause-too_many g c stopped =
     let old = c.loop-item.found.keys in
     let new = c.claim_all-in-Some.new.found.keys in
     let item = c.in-Some.item.now in
-    let given : c.in_ok-used.used.items ≡ uses item = search rules in
+    let given : c.in_ok-scan.scan.used.items ≡ uses item = search rules in
     let within : c.loop-item.next < length old = search rules in
     let is : get_or old c.loop-item.next item ≡ item = get_or_from_slice_get old c.loop-item.next item item (sym c.in-Some.ensures.key) in
     let among : All (Contains (old ++ uses item)) new = subst (λ xs. All (Contains (old ++ xs)) new) given c.claim_all-in-Some.ensures.among in
@@ -65,13 +68,16 @@ loop-item-preserved g c =
     let old = c.loop-item.found.keys in
     let new = c.claim_all-in-Some.new.found.keys in
     let item = c.in-Some.item.now in
-    let given : c.in_ok-used.used.items ≡ uses item = search rules in
+    let given : c.in_ok-scan.scan.used.items ≡ uses item = search rules in
     let within : c.loop-item.next < length old = search rules in
     let is : get_or old c.loop-item.next item ≡ item = get_or_from_slice_get old c.loop-item.next item item (sym c.in-Some.ensures.key) in
     let among : All (Contains (old ++ uses item)) new = subst (λ xs. All (Contains (old ++ xs)) new) given c.claim_all-in-Some.ensures.among in (
       scanned roots uses old new c.loop-item.next item c.loop-item.invariant.0 within is among (c.in_ok-claim_all-2.ensures.claimed ∙ ap (insert_all same_item old) given),
       c.in_ok-claim_all-2.ensures.within,
-      (let more = no_shorter old c.in_ok-used.used.items new c.in_ok-claim_all-2.ensures.claimed in omega (arith, more, within)),
+      (let more = no_shorter old c.in_ok-scan.scan.used.items new c.in_ok-claim_all-2.ensures.claimed in omega (arith, more, within)),
+      subst (λ all. IsLeast all c.least_over-over.result)
+          (sym (noted_more (g.G.Graph.notes c.args.graph.now) old new c.loop-item.next item within is c.in_ok-scan.scan.used.items c.in_ok-claim_all-2.ensures.claimed))
+          (c.least_over-over.ensures (flat_map (g.G.Graph.notes c.args.graph.now) (take c.loop-item.next old)) (g.G.Graph.notes c.args.graph.now item) c.loop-item.invariant.3 c.in_ok-scan.ensures.over),
     )
 
 pub returns-clause-members : goal.returns-clause-members
@@ -80,3 +86,10 @@ returns-clause-members g c =
     let uses = g.G.Graph.uses c.args.graph.now in
     let same : c.from_vec.result ≡ c.loop-item.found.keys = search rules in
     subst (AreMembers roots uses) (sym same) (whole roots uses c.loop-item.found.keys c.loop-item.next c.loop-item.invariant.0 (search rules) (search rules))
+
+pub returns-clause-over : goal.returns-clause-over
+returns-clause-over g c =
+    let same : c.from_vec.result ≡ c.loop-item.found.keys = search rules in
+    subst (λ all. IsLeast all c.loop-item.over)
+    (noted_whole (g.G.Graph.notes c.args.graph.now) c.loop-item.found.keys c.loop-item.next (search rules) ∙ ap (flat_map (g.G.Graph.notes c.args.graph.now)) (sym same))
+    c.loop-item.invariant.3

@@ -1,15 +1,18 @@
-use Rattle.std.proofs.Common.{rules, arith}
-use Rattle.mm_terms.proofs.ClosureLemmas.{one_verdict}
-use Rattle.mm_collect.specs.Roots.{roots_of}
-use Rattle.mm_collect.specs.Uses.{uses_of}
+use Rattle.std.proofs.Common.{rules, subst, ◌∙◌, sym, ap, None, Some, refl}
+use Rattle.std.specs.Prelude.{flat_map}
+use Rattle.mm_collect.specs.Notes.{IsLeast}
+use Rattle.mm_collect.specs.Uses.{notes_of}
+use Rattle.mm_collect.specs.Verdict.{IsTooLong}
+use Rattle.mm_collect.proofs.VerdictLemmas.{none_noted, least_noted, as_told}
 use Rattle.mm_collect.proofs.collection.collect.Goals as goal
 
-pub returns-in-Ok-clause-refused : goal.returns-in-Ok-clause-refused
-returns-in-Ok-clause-refused c more =
-    let longer = one_verdict (roots_of c.args.p.now) (uses_of c.args.p.now) c.args.opts.now.items c.in-Ok.items more c.in-Ok.ensures.members in
-    omega (arith, longer, c.in-Ok.ensures.within)
+pub returns-in-None-clause-accepted : goal.returns-in-None-clause-accepted
+returns-in-None-clause-accepted c =
+    none_noted c.args.p.now c.args.opts.now c.in-Ok.field-0.items c.in-Ok.ensures.members c.in-Ok.ensures.within
+    (subst (IsLeast (flat_map (notes_of c.args.p.now c.args.opts.now.length) c.in-Ok.field-0.items)) c.in-None.is c.in-Ok.ensures.over)
 
-pub returns-in-Err-TooMany-clause-accepted : goal.returns-in-Err-TooMany-clause-accepted
-returns-in-Err-TooMany-clause-accepted c items n members short is =
-    let longer = one_verdict (roots_of c.args.p.now) (uses_of c.args.p.now) c.args.opts.now.items items (search rules) members in
-    omega (arith, longer, short)
+pub returns-in-Some-clause-too_long : goal.returns-in-Some-clause-too_long
+returns-in-Some-clause-too_long c path n is =
+    let long = least_noted c.args.p.now c.args.opts.now c.in-Ok.field-0.items c.in-Ok.ensures.members c.in-Ok.ensures.within c.in-Some.over.path c.in-Some.over.length
+    (subst (IsLeast (flat_map (notes_of c.args.p.now c.args.opts.now.length) c.in-Ok.field-0.items)) c.in-Some.is c.in-Ok.ensures.over) in
+    as_told c.args.p.now c.args.opts.now c.in-Some.over.path path c.in-Some.over.length n _ refl is long

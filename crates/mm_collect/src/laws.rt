@@ -1,0 +1,21 @@
+//! Laws of the verdict. Each is proved, and its function does nothing.
+
+ghost use Rattle.std.specs.Prelude.{◌≡◌, ℕ, List};
+ghost use Rattle.std.specs.List.Sorted.{IsPermutation};
+ghost use Rattle.mm_terms.specs.declared.item.Item.{Item};
+ghost use Rattle.mm_collect.specs.declared.program.Opts.{Opts};
+ghost use Rattle.mm_collect.specs.declared.program.Program.{Program};
+ghost use Rattle.mm_collect.specs.Verdict.{IsAccepted, IsTooLong, IsTooMany};
+
+/// The verdict on a program is one: no two kinds of it hold, what is told as too long is one path with one length, and
+/// the items of an accepted program are one set.
+pub fn one_verdict()
+    ensures many_or_long { (p : Program) (opts : Opts) (path : List ℕ) (n : ℕ) → IsTooMany p opts → IsTooLong p opts path n → ⊥ }
+    ensures many_or_accepted { (p : Program) (opts : Opts) (items : List Item) → IsTooMany p opts → IsAccepted p opts items → ⊥ }
+    ensures long_or_accepted { (p : Program) (opts : Opts) (path : List ℕ) (n : ℕ) (items : List Item) →
+        IsTooLong p opts path n → IsAccepted p opts items → ⊥ }
+    ensures one_note { (p : Program) (opts : Opts) (path other : List ℕ) (n m : ℕ) →
+        IsTooLong p opts path n → IsTooLong p opts other m → (path ≡ other) × (n ≡ m) }
+    ensures one_listing { (p : Program) (opts : Opts) (items others : List Item) →
+        IsAccepted p opts items → IsAccepted p opts others → IsPermutation items others }
+{}

@@ -1,14 +1,12 @@
 -- The answer to a command line and a text: the status, and the bytes that are written.
-use Rattle.std.specs.Prelude.{◌≡◌, ◌≢◌, ℕ, ◌≤◌, ◌⊎◌, List, [], ◌∷◌, ◌++◌, length, codes, decimal}
+use Rattle.std.specs.Prelude.{◌≡◌, ◌≢◌, ℕ, ◌⊎◌, List, [], ◌∷◌, ◌++◌, codes, decimal}
 use Rattle.std.specs.declared.option.Option.{Option}
 use Rattle.std.specs.Io.KnownBytes.{Appends}
 use Rattle.mm_outside.specs.Whole.{WritesFront}
 use Rattle.mm_terms.specs.declared.item.Item.{Item}
-use Rattle.mm_terms.specs.Closure.{AreMembers, HasMoreThan}
 use Rattle.mm_collect.specs.declared.program.Program.{Program}
 use Rattle.mm_collect.specs.declared.program.Opts.{Opts}
-use Rattle.mm_collect.specs.Roots.{roots_of}
-use Rattle.mm_collect.specs.Uses.{uses_of}
+use Rattle.mm_collect.specs.Verdict.{IsAccepted, IsTooMany, IsTooLong}
 use Rattle.mm_tool.specs.declared.ast.Crate.{Crate}
 use Rattle.mm_tool.specs.declared.lex.token.Token.{Token}
 use Rattle.mm_tool.specs.declared.words.Command.{Command}
@@ -30,19 +28,30 @@ pub record Means (text : List ℕ) (program : Program) : Type 0 where
 abbrev pub line : List ℕ → List ℕ
 line text = text ++ 10 ∷ []
 
--- no more items than the limit: they are listed
+-- the program is within the limits: its items are listed
 pub record IsListed (p : Program) (opts : Opts) (status : ℕ) (output : List ℕ) : Type 0 where
   pub status_is : status ≡ 0
   pub items : List Item
-  pub members : AreMembers (roots_of p) (uses_of p) items
-  pub within : length items ≤ opts.items
+  pub accepted : IsAccepted p opts items
   pub listed : IsListing p items output
 
--- more items than the limit
-pub record IsTooMany (p : Program) (opts : Opts) (status : ℕ) (output : List ℕ) : Type 0 where
+-- it has more items than the limit
+pub record SaysTooMany (p : Program) (opts : Opts) (status : ℕ) (output : List ℕ) : Type 0 where
   pub status_is : status ≡ 5
-  pub more : HasMoreThan (roots_of p) (uses_of p) opts.items
+  pub many : IsTooMany p opts
   pub output_is : output ≡ line (codes "error: more than " ++ decimal opts.items ++ codes " items in crate " ++ p.krate)
+
+-- it needs an instance of this path that has length n, which is past the limit
+pub record SaysTooLong (p : Program) (opts : Opts) (status : ℕ) (output : List ℕ) : Type 0 where
+  pub status_is : status ≡ 6
+  pub path : List ℕ
+  pub n : ℕ
+  pub long : IsTooLong p opts path n
+  pub output_is : output ≡ line (codes "error: type length " ++ decimal n ++ codes " in " ++ path)
+
+-- the verdict on a program
+abbrev pub IsVerdict : Program → Opts → ℕ → List ℕ → Type 0
+IsVerdict p opts status output = IsListed p opts status output ⊎ SaysTooMany p opts status output ⊎ SaysTooLong p opts status output
 
 -- the text means no program
 pub record IsBadText (text : List ℕ) (status : ℕ) (output : List ℕ) : Type 0 where
@@ -54,7 +63,7 @@ pub record IsBadText (text : List ℕ) (status : ℕ) (output : List ℕ) : Type
 pub record IsJudged (text : List ℕ) (opts : Opts) (status : ℕ) (output : List ℕ) : Type 0 where
   pub program : Program
   pub means : Means text program
-  pub verdict : IsListed program opts status output ⊎ IsTooMany program opts status output
+  pub verdict : IsVerdict program opts status output
 
 -- the answer to a text
 abbrev pub IsAnswer : List ℕ → Opts → ℕ → List ℕ → Type 0
@@ -77,7 +86,7 @@ IsReport words text status output = IsDone words text status output ⊎ IsBadWor
 
 -- the statuses that there are
 abbrev pub IsStatus : ℕ → Type 0
-IsStatus status = (status ≡ 0) ⊎ (status ≡ 2) ⊎ (status ≡ 3) ⊎ (status ≡ 5) ⊎ (status ≡ 20) ⊎ (status ≡ 21) ⊎ (status ≡ 22) ⊎ (status ≡ 23)
+IsStatus status = (status ≡ 0) ⊎ (status ≡ 2) ⊎ (status ≡ 3) ⊎ (status ≡ 5) ⊎ (status ≡ 6) ⊎ (status ≡ 20) ⊎ (status ≡ 21) ⊎ (status ≡ 22) ⊎ (status ≡ 23)
 
 -- the status is a report's own: no device failed, memory was found, and the text was not too long
 abbrev pub IsSettled : ℕ → Type 0

@@ -1,17 +1,12 @@
 -- The text of a type: the one form in which it is written.
-use Rattle.std.specs.Prelude.{ℕ, ◌-◌, List, [], ◌∷◌, ◌++◌, Bool, false, cond, nat_eq, length, take, drop, flat_map, codes, decimal, None, Some, slice_get}
-use Rattle.std.specs.declared.option.Option.{Option}
+use Rattle.std.specs.Prelude.{ℕ, ◌-◌, List, [], ◌∷◌, ◌++◌, Bool, false, cond, nat_eq, length, take, drop, flat_map, codes, decimal, slice_get}
 use Rattle.mm_terms.specs.declared.ids.DefId.{DefId}
 use Rattle.mm_terms.specs.declared.ty_head.TyHead.{TyHead}
 use Rattle.mm_terms.specs.declared.ty_head.TyHead.TheVariants.{Param, U64, Bool as Bools, Tuple, Ref, Boxed, FnPtr, FnItem, Closure, Dyn, Adt}
 use Rattle.mm_terms.specs.declared.tree.Tree.{Tree}
 use Rattle.mm_terms.specs.Tree.{tree_fold}
 use Rattle.mm_collect.specs.declared.program.Program.{Program}
-use Rattle.mm_collect.specs.declared.program.Function.{Function}
-
-abbrev pub function_path : Option Function → List ℕ
-function_path None = []
-function_path (Some f) = f.path
+use Rattle.mm_collect.specs.Uses.{function_path}
 
 -- the path of a definition; empty where there is none
 abbrev pub path_of : Program → DefId → List ℕ

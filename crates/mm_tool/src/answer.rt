@@ -1,7 +1,7 @@
-ghost use Rattle.std.specs.Prelude.{◌≡◌, ℕ, List, ◌∷◌, [], ◌++◌, ◌≤◌, ◌⊎◌, length, codes, decimal, IfOk};
+ghost use Rattle.std.specs.Prelude.{◌≡◌, ℕ, List, ◌++◌, ◌≤◌, length, codes, decimal, IfOk};
 ghost use Rattle.mm_collect.specs.declared.program.Program.{Program};
 ghost use Rattle.mm_tool.specs.Listing.{IsListing};
-ghost use Rattle.mm_tool.specs.Report.{Means, IsListed, IsTooMany, IsAnswer, line};
+ghost use Rattle.mm_tool.specs.Report.{Means, IsVerdict, IsAnswer, line};
 
 use crate::lex::lex;
 use crate::listing::list_items;
@@ -53,9 +53,22 @@ fn too_many(alloc: Global, items: u32, krate: &[u8]) -> Result<Vec<u8>, NoMemory
     Ok(output)
 }
 
-/// The verdict on a program: the listing of its items, or that there are too many.
+/// The line of a refusal of an instance that is too long.
+fn too_long(alloc: Global, path: &[u8], length: u32) -> Result<Vec<u8>, NoMemory>
+    ensures { IfOk result (λ output. output.items ≡ line (codes "error: type length " ++ decimal length ++ codes " in " ++ path.now)) }
+{
+    let mut buffer = Buffer::new();
+    let mut output = Vec::from_slice(alloc, b"error: type length ")?;
+    output.extend_from_slice(buffer.format(length).as_bytes())?;
+    output.extend_from_slice(b" in ")?;
+    output.extend_from_slice(path)?;
+    output.push(b'\n')?;
+    Ok(output)
+}
+
+/// The verdict on a program: the listing of its items, that there are too many, or that one is too long.
 fn judge(alloc: Global, p: &Program, opts: &Opts) -> Result<Answer, NoMemory>
-    ensures { IfOk result (λ answer. IsListed p.now opts.now answer.status answer.output.items ⊎ IsTooMany p.now opts.now answer.status answer.output.items) }
+    ensures { IfOk result (λ answer. IsVerdict p.now opts.now answer.status answer.output.items) }
 {
     match collect(alloc, p, opts) {
         Ok(items) => Ok(Answer {
@@ -66,7 +79,12 @@ fn judge(alloc: Global, p: &Program, opts: &Opts) -> Result<Answer, NoMemory>
             status: 5,
             output: too_many(alloc, items, p.krate.as_slice())?,
         }),
-        Err(_) => Err(NoMemory),
+        Err(CollectFault::TypeLength(path, length)) => Ok(Answer {
+            status: 6,
+            output: too_long(alloc, path.as_slice(), length)?,
+        }),
+        // There are no traits, so no impl is missing.
+        Err(CollectFault::NoImpl(_) | CollectFault::NoMemory) => Err(NoMemory),
     }
 }
 

@@ -31,7 +31,7 @@ fn put<K: Sink>(sink: &mut K, status: u8, output: &[u8]) -> u8
 /// The answer to the text that a source has left, or the status of what failed.
 fn answer_of<S: Source>(alloc: Global, source: &mut S, opts: &Opts) -> Result<Answer, u8>
     ensures ok { IfOk result (λ answer. IfSome (S.left source.old) (λ text. IsAnswer text opts.now answer.status answer.output.items)) }
-    ensures statuses { IfOk result (λ answer. (answer.status ≡ 0) ⊎ (answer.status ≡ 3) ⊎ (answer.status ≡ 5)) }
+    ensures statuses { IfOk result (λ answer. (answer.status ≡ 0) ⊎ (answer.status ≡ 3) ⊎ (answer.status ≡ 5) ⊎ (answer.status ≡ 6)) }
     ensures end { OnOk result (IsAtEnd (S.left source.new)) }
     ensures failures { IfErr result (λ status. (status ≡ 20) ⊎ (status ≡ 22) ⊎ (status ≡ 23)) }
     ensures fault { result ≡ Err 20 → Rose (S.faults source.old) (S.faults source.new) }
@@ -54,10 +54,11 @@ fn answer_of<S: Source>(alloc: Global, source: &mut S, opts: &Opts) -> Result<An
 ///
 /// | status | written | when |
 /// |---|---|---|
-/// | 0 | the listing | the text means a program with no more items than the limit |
+/// | 0 | the listing | the text means a program within both limits |
 /// | 2 | `error: bad words` | the words are no command line; nothing is read |
 /// | 3 | `error: bad text` | the text means no program |
 /// | 5 | `error: more than <N> items in crate <name>` | the program has more items than the limit |
+/// | 6 | `error: type length <n> in <path>` | else an item of the program calls an instance that is longer than the limit |
 /// | 20 | nothing | the source failed |
 /// | 21 | a front of the output | the sink failed |
 /// | 22 | nothing | memory was wanting |

@@ -6,7 +6,6 @@ pub returns-in-Ok : goal.returns-in-Ok
 returns-in-Ok c = inl (record {
   status_is = refl;
   items = c.in-Ok.items;
-  members = c.in-Ok.ensures.members;
-  within = c.in-Ok.ensures.within;
+  accepted = c.in-Ok.ensures.accepted;
   listed = subst (λ items. IsListing c.args.p.now items c.in_ok-list_items-in-Ok.field-0.items) c.as_slice.ensures c.in_ok-list_items-in-Ok.ensures;
 })

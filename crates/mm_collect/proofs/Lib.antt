@@ -3,4 +3,4 @@ mod UseLemmas
 mod NoteLemmas
 mod GrowthLemmas
 mod ClosingLemmas
-mod VerdictLemmas
+pub mod VerdictLemmas

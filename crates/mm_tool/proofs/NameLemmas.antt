@@ -1,9 +1,10 @@
 -- Where names lead after one more name.
-use Rattle.std.proofs.Common.{◌≡◌, ℕ, suc, ◌+◌, ◌<◌, ◌≤◌, List, [], ◌∷◌, ◌++◌, length, map, take, get_or, Bool, true, false, cond, Option, None, Some, is_some, refl, sym, ◌∙◌, ap, subst, inl, inr, arith}
+use Rattle.std.proofs.Common.{◌≡◌, ℕ, suc, ◌+◌, ◌<◌, ◌≤◌, List, [], ◌∷◌, ◌++◌, length, map, take, get_or, Bool, true, false, cond, Option, None, Some, is_some, not, ◌||◌, refl, sym, ◌∙◌, ap, subst, inl, inr, arith}
 use Rattle.std.proofs.lemmas.Bool.{cases_Bool, false≢true, cond-true, cond-false}
 use Rattle.std.proofs.lemmas.List.{take_more, take_all, length-take-le}
 use Rattle.std.proofs.lemmas.Slice.Eq.{bytes_eq-Decides}
 use Rattle.std.specs.Option.{option_map, option_or}
+use Rattle.std.specs.List.{list_any}
 use Rattle.std.specs.Str.{bytes_eq}
 use Rattle.mm_tool.specs.Names.{Names, place_of}
 
@@ -75,3 +76,16 @@ module _ (ns : List (List ℕ)) (i : ℕ) where
 
   pub index_all : (at : Names) → ((q : List ℕ) → at q ≡ place_of (take i ns) q) → length ns ≤ i → at ≡ place_of ns
   index_all at so_far l = λ j q. (so_far q ∙ ap (λ m. place_of m q) (take_all i ns l)) j
+
+list_any-map : {A B : Type 0} (p : B → Bool) (f : A → B) (xs : List A) → list_any p (map f xs) ≡ list_any (λ x. p (f x)) xs
+list_any-map p f [] = refl
+list_any-map p f (x ∷ xs) = ap (λ b. p (f x) || b) (list_any-map p f xs)
+
+not-not : (b : Bool) → not (not b) ≡ b
+not-not true = refl
+not-not false = refl
+
+-- what an insertion tells of a name that it finds
+pub was_there : {K : Type 0} (now : K → List ℕ) (keys : List K) (name other : List ℕ) (new : Bool) → new ≡ not (list_any (λ k. bytes_eq name (now k)) keys) → name ≡ other → not new ≡ list_any (bytes_eq other) (map now keys)
+was_there now keys name other new tells same =
+    ap not tells ∙ not-not (list_any (λ k. bytes_eq name (now k)) keys) ∙ sym (list_any-map (bytes_eq name) now keys) ∙ ap (λ n. list_any (bytes_eq n) (map now keys)) same

@@ -1,20 +1,19 @@
 -- What follows of the answers of all rules.
-use Rattle.std.proofs.Common.{◌≡◌, List, [], ◌∷◌, Option, None, Some, Result, Ok, Err, refl, sym, ◌∙◌, ap, subst}
-use Rattle.std.specs.List.{slice_get}
+use Rattle.std.proofs.Common.{◌≡◌, List, [], Result, Ok, Err, sym, ◌∙◌, ap, subst}
 use Rattle.mm_tool.specs.declared.lex.token.Place.{Place}
 use Rattle.mm_tool.specs.declared.ast.Crate.{Crate}
+use Rattle.mm_tool.specs.declared.ast.Function.{Function}
 use Rattle.mm_tool.specs.declared.load.rule.Rule.{Rule}
 use Rattle.mm_tool.specs.declared.load.rule.Rule.TheVariants.{UnknownName, DoubleName, WrongArity, BadMain, LongType}
 use Rattle.mm_tool.specs.declared.load.load_error.LoadError as errors
 use Rattle.mm_tool.specs.declared.load.load_error.LoadError.TheVariants.{Rule as Broken, NoMemory}
 use Rattle.mm_tool.specs.Asking.{Tells, told, answered, Judges}
+use Rattle.mm_tool.specs.Names.{Names}
 use Rattle.mm_tool.specs.Rules.{fails, before, Kept, KeepsRules, IsFirstFault}
 
-some_same : {A : Type 0} (o : Option A) (a b : A) → o ≡ Some a → o ≡ Some b → a ≡ b
-some_same o a b e f = cc
-
-none_is : {A : Type 0} (o : Option A) (a : A) → o ≡ None → o ≡ Some a → ⊥
-none_is o a e f = cc
+-- what is told by an index and a list of functions is told of what they are
+pub asked_of : (rule : Rule) (places : Names → List Function → List Place) (r : Result (Unit {0}) errors.LoadError) (by is : Names) (functions written : List Function) → by ≡ is → functions ≡ written → Tells rule (places by functions) r → Tells rule (places is written) r
+asked_of rule places r by is functions written same list t = subst (λ ns. Tells rule (places ns written) r) same (subst (λ fs. Tells rule (places by fs) r) list t)
 
 module _ (tree : Crate) where
   faulty : (rule : Rule) (e : errors.LoadError) → Kept tree (before rule) → told rule (fails rule tree) e → Judges tree (Err e)
@@ -38,12 +37,3 @@ module _ (tree : Crate) where
 
   pub judged_all : (r : Result (Unit {0}) errors.LoadError) → Kept tree (before LongType) → Tells LongType (fails LongType tree) r → Judges tree r
   judged_all r kept t = last_rule r kept t.answer
-
-  fails_nowhere : (rule : Rule) (at : Place) → fails rule tree ≡ [] → slice_get (fails rule tree) 0 ≡ Some at → ⊥
-  fails_nowhere rule at none first = none_is (slice_get (fails rule tree) 0) at (ap (λ ps. slice_get ps 0) none) first
-
-  pub no_fault : (rule : Rule) (at : Place) → KeepsRules tree → IsFirstFault tree rule at → ⊥
-  no_fault rule at kept fault = fails_nowhere rule at (kept rule) fault.first
-
-  same_rule : (rule : Rule) (at there : Place) → IsFirstFault tree rule at → IsFirstFault tree rule there → at ≡ there
-  same_rule rule at there f g = some_same (slice_get (fails rule tree) 0) at there f.first g.first

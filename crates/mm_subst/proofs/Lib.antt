@@ -1,1 +1,1 @@
-mod SubstitutionLemmas
+mod ParamLemmas

@@ -6,7 +6,7 @@ pub mod laws;
 mod substitution;
 
 pub use bounds::params_below;
-pub use substitution::{apply, apply_all};
+pub use substitution::{applied_length, apply, apply_all};
 
 #[cfg(test)]
 mod tests;

@@ -2,5 +2,6 @@ pub mod ClosureLemmas
 mod HashedLemmas
 mod HeadLemmas
 mod OrderLemmas
+mod PutLemmas
 mod SameLemmas
 mod TypeLemmas

@@ -1,4 +1,4 @@
-ghost use Rattle.std.specs.Prelude.{◌≡◌, ◌<◌, ◌^◌, IfOk, All, length, refl};
+ghost use Rattle.std.specs.Prelude.{◌≡◌, ◌+◌, ◌<◌, ◌^◌, IfOk, All, length, refl};
 ghost use Rattle.std.specs.Option.{SomeIff};
 ghost use Rattle.std.specs.Cmp.{partial_equiv_from_equiv};
 ghost use Rattle.std.specs.Ordering.{as_partial_cmp};
@@ -11,6 +11,8 @@ ghost use Rattle.mm_terms.specs.OrderLaws.{tree_cmp_total};
 ghost use Rattle.mm_terms.specs.Same.{same_tree, same_tree_equiv, same_tree_order, same_tree-cmp, types_equal};
 ghost use Rattle.mm_terms.specs.Tree.{node, head_of, children_of};
 
+mod substitution;
+
 use crate::lists::{NoMemory, Tys};
 use crate::tree::Tree;
 use crate::ty_head::TyHead;
@@ -21,10 +23,11 @@ use std::hash::{Hash, Hasher};
 use std::marker::Model;
 
 /// A type, which contracts see as its tree. Each head in it has as many children as it takes, and its length is below
-/// 2^32.
+/// 2^32. The length is kept beside the tree.
 #[derive(Debug, Drop)]
 pub struct Ty {
     tree: Tree,
+    length: u32,
 }
 
 impl Model for Ty {
@@ -36,30 +39,51 @@ impl Model for Ty {
 
     ghost coded = { Prim.hlevel (codes, tree_row.the_row.coded) };
 
+    ghost use Rattle.std.specs.Prelude.{◌≡◌};
+    ghost use Rattle.std.proofs.Common.{sym};
     ghost use Rattle.mm_terms.specs.Formed.{IsType};
+    ghost use Rattle.mm_terms.specs.Length.{length_of};
 
     ghost view = { λ t. t.tree };
 
-    ghost invariant = { λ t. IsType t.tree };
+    ghost invariant = { λ t. IsType t.tree × (t.length ≡ length_of t.tree) };
 
-    ghost inverse = { λ t. record { tree = t } };
+    ghost inverse = { λ t. record { tree = t; length = length_of t } };
+
+    ghost inverse_ok = { λ t h i. record { tree = t.tree; length = sym h.1 i } };
 }
 
 impl Ty {
+    /// The type with this head over these children, which are moved. A type of length 2^32 or more is not made: that is
+    /// `NoMemory` too.
+    pub fn from_children(alloc: Global, head: TyHead, children: Vec<Ty>) -> Result<Ty, NoMemory>
+        requires { FitsHead head (length children.items) }
+        ensures { IfOk result (λ ty. ty ≡ node head children.items) }
+    {
+        let Some(length) = length_over(&children) else {
+            return Err(NoMemory);
+        };
+        let children = trees(alloc, children)?;
+        Ok(Ty {
+            tree: Tree { head, children },
+            length,
+        })
+    }
+
     /// The type with this head and copies of these children. A type of length 2^32 or more is not made: that is
     /// `NoMemory` too.
     pub fn make(alloc: Global, head: TyHead, children: &[Ty]) -> Result<Ty, NoMemory>
         requires { FitsHead head (length children.now) }
         ensures { IfOk result (λ ty. ty ≡ node head children.now) }
     {
-        match total_length(children) {
-            Some(total) if total < u32::MAX => {}
-            _ => return Err(NoMemory),
-        }
-        let children = trees(alloc, children)?;
-        Ok(Ty {
-            tree: Tree { head, children },
-        })
+        Ty::from_children(alloc, head, copies(alloc, children)?)
+    }
+
+    /// The type as its tree.
+    pub fn as_tree(&self) -> &Tree
+        ensures { result.now ≡ self.now }
+    {
+        &self.tree
     }
 
     pub fn head(&self) -> TyHead
@@ -83,7 +107,8 @@ impl Ty {
         let mut children = Vec::with_capacity(alloc, self.tree.children.len())?;
         for child in self.tree.children.as_slice() {
             let tree = child.duplicate(alloc)?;
-            children.push(Ty { tree })?;
+            let length = child.length();
+            children.push(Ty { tree, length })?;
         }
         Ok(Items::from_vec(children))
     }
@@ -92,7 +117,10 @@ impl Ty {
         ensures { IfOk result (λ ty. ty ≡ self.now) }
     {
         let tree = self.tree.duplicate(alloc)?;
-        Ok(Ty { tree })
+        Ok(Ty {
+            tree,
+            length: self.length,
+        })
     }
 
     /// The number of constructors in the type, repeats counted. `(u64, u64)` and `fnptr(u64) -> bool` have 3, and `()`
@@ -100,7 +128,7 @@ impl Ty {
     pub fn length(&self) -> u32
         ensures { result ≡ length_of self.now }
     {
-        self.tree.length()
+        self.length
     }
 }
 
@@ -115,27 +143,40 @@ pub(crate) fn total_length(types: &[Ty]) -> Option<u32>
     Some(total)
 }
 
-/// Copies of the types as trees.
-fn trees(alloc: Global, types: &[Ty]) -> Result<Items<Tree>, NoMemory>
-    ensures copies { IfOk result (λ trees. trees ≡ types.now) }
+/// The length of a type over these children, or `None` where it is 2^32 or more.
+fn length_over(children: &[Ty]) -> Option<u32>
+    ensures { SomeIff result (1 + lengths_of children.now < 2 ^ 32) (1 + lengths_of children.now) }
+{
+    total_length(children)?.checked_add(1)
+}
+
+/// The types as trees.
+fn trees(alloc: Global, types: Vec<Ty>) -> Result<Items<Tree>, NoMemory>
+    ensures same { IfOk result (λ trees. trees ≡ types.items) }
     ensures formed { IfOk result (λ trees. All IsFormed trees) }
 {
     let mut trees = Vec::with_capacity(alloc, types.len())?;
     for ty in types {
-        trees.push(ty.tree.duplicate(alloc)?)?;
+        trees.push(ty.tree)?;
     }
     Ok(Items::from_vec(trees))
+}
+
+fn copies(alloc: Global, types: &[Ty]) -> Result<Vec<Ty>, NoMemory>
+    ensures { IfOk result (λ tys. tys.items ≡ types.now) }
+{
+    let mut copies = Vec::with_capacity(alloc, types.len())?;
+    for ty in types {
+        copies.push(ty.duplicate(alloc)?)?;
+    }
+    Ok(copies)
 }
 
 /// A copy of each of the types, in their order.
 pub fn duplicate_all(alloc: Global, types: &[Ty]) -> Result<Tys, NoMemory>
     ensures { IfOk result (λ tys. tys ≡ types.now) }
 {
-    let mut copies = Vec::with_capacity(alloc, types.len())?;
-    for ty in types {
-        copies.push(ty.duplicate(alloc)?)?;
-    }
-    Ok(Items::from_vec(copies))
+    Ok(Items::from_vec(copies(alloc, types)?))
 }
 
 impl PartialEq for Ty {

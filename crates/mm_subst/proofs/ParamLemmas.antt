@@ -1,5 +1,5 @@
--- Substitution at a type that is taken apart, and what is known of its children.
-use Rattle.std.proofs.Common.{◌≡◌, ◌≢◌, ℕ, ◌<◌, ◌≤◌, ◌++◌, take, drop, List, [], length, map, get_or, refl, sym, ap, ◌∙◌, subst as cast, arith}
+-- Which parameters a type has, by its head and its children.
+use Rattle.std.proofs.Common.{◌≡◌, ℕ, ◌<◌, ◌≤◌, take, List, [], length, get_or, refl, sym, ap, ◌∙◌, subst as cast, arith}
 use Rattle.std.specs.Prelude.{All}
 use Rattle.std.proofs.lemmas.List.Elements.{All-nil, All-cons, All-get_or, All-same}
 use Rattle.std.proofs.lemmas.Grind.{common_steps}
@@ -7,36 +7,13 @@ use Rattle.mm_terms.specs.declared.ty_head.TyHead.{TyHead}
 use Rattle.mm_terms.specs.declared.ty_head.TyHead.TheVariants.{Param}
 use Rattle.mm_terms.specs.declared.tree.Tree.{Tree}
 use Rattle.mm_terms.specs.Order.{number_of}
-use Rattle.mm_terms.specs.Length.{length_of, length_of-parts, length_of-le_lengths_of}
-use Rattle.mm_terms.specs.Substitution.{subst, ParamsBelow, ParamsBelow-param, ParamsBelow-children, ParamsBelow-node, param_of, subst-param, subst-node}
-use Rattle.mm_terms.specs.Tree.{node, head_of, children_of, node-parts}
-
--- a type that is a parameter gives way to its argument
-pub at_param : (args : List Tree) (t d : Tree) (i : ℕ) → head_of t ≡ Param i → ParamsBelow (length args) t → subst args t ≡ get_or args i d
-at_param args t d i is below =
-    ap (subst args) (sym (node-parts t))
-    ∙ ap (λ head. subst args (node head (children_of t))) is
-    ∙ subst-param args i (children_of t) d (ParamsBelow-param (length args) t i is below)
-
--- each other type keeps its head
-pub at_node : (args : List Tree) (t : Tree) → ((i : ℕ) → head_of t ≢ Param i) → subst args t ≡ node (head_of t) (map (subst args) (children_of t))
-at_node args t other = ap (subst args) (sym (node-parts t)) ∙ subst-node args (head_of t) (children_of t) other
-
--- a child is shorter than the type
-pub shorter : (t child : Tree) (k : ℕ) → k < length (children_of t) → child ≡ get_or (children_of t) k child → length_of child < length_of t
-shorter t child k within is =
-    let short = length_of-le_lengths_of (children_of t) k child within in
-    let same = ap length_of is in
-    omega (arith, length_of-parts t)
+use Rattle.mm_terms.specs.Substitution.{ParamsBelow, ParamsBelow-children, ParamsBelow-node, param_of}
+use Rattle.mm_terms.specs.Tree.{head_of, children_of, node-parts}
 
 -- the parameters of a child are below n where those of the type are
 pub child_below : (n : ℕ) (t child : Tree) (k : ℕ) → k < length (children_of t) → child ≡ get_or (children_of t) k child → ParamsBelow n t → ParamsBelow n child
 child_below n t child k within is below =
     cast (ParamsBelow n) (sym is) (All-get_or (ParamsBelow n) (children_of t) k child within (ParamsBelow-children n t below))
-
--- past the end of the list all is made
-pub all_made : (f : Tree → Tree) (made xs : List Tree) (k : ℕ) → length xs ≤ k → made ++ map f (drop k xs) ≡ map f xs → made ≡ map f xs
-all_made f made xs k ended left = grind (arith, common_steps)
 
 no_params : (n : ℕ) (head : TyHead) → ((i : ℕ) → head ≡ Param i → i < n) → All (λ i. i < n) (param_of head)
 no_params n (Param i) own = All-cons (λ i. i < n) i [] (own i refl) (All-nil (λ i. i < n))

@@ -2,10 +2,8 @@
 use Rattle.std.proofs.Common.{◌≡◌, ℕ, zero, suc, ◌+◌, ◌<◌, ◌≤◌, length, sum, take, get_or, arith, List, [], ◌∷◌, ◌++◌, map, Result, refl, sym, ◌∙◌, ap, subst}
 use Rattle.std.proofs.lemmas.List.Sums.{sum_by-cons}
 use Rattle.std.specs.List.{flat_map}
-use Rattle.mm_terms.specs.declared.tree.Tree.{Tree}
 use Rattle.mm_terms.specs.Tree.{node}
 use Rattle.mm_tool.specs.Meaning.{head_in, type_of}
-use Rattle.mm_tool.specs.declared.lex.token.Place.{Place}
 use Rattle.mm_tool.specs.declared.load.rule.Rule.{Rule}
 use Rattle.mm_tool.specs.declared.load.load_error.LoadError.{LoadError}
 use Rattle.mm_tool.specs.Asking.{Tells}

@@ -1,6 +1,5 @@
 -- The program that a tree means: each name is replaced by the place to which it leads.
 use Rattle.std.specs.Prelude.{◌≡◌, ℕ, List, [], length, map, Option, None, Some, unwrap_or}
-use Rattle.mm_tool.specs.declared.lex.token.Place.{Place}
 use Rattle.mm_tool.specs.declared.ast.Crate.{Crate}
 use Rattle.mm_tool.specs.declared.ast.Function as written_function
 use Rattle.mm_tool.specs.declared.ast.Type as written_type
@@ -71,12 +70,12 @@ call_of paths scope call =
       target = call.target.number;
     }
 
+abbrev pub end_of : Names → Names → written_end.End → End
+end_of paths scope written.Return = ends.Return
+end_of paths scope (written.Call call) = ends.Call (call_of paths scope call)
+
 unfoldable pub block_of : Names → Names → written_block.Block → Block
-block_of paths scope block = record { end = in_end block.end }
-  where
-    in_end : written_end.End → End
-    in_end written.Return = ends.Return
-    in_end (written.Call call) = ends.Call (call_of paths scope call)
+block_of paths scope block = record { end = end_of paths scope block.end }
 
 -- a function of the crate with this name
 unfoldable pub function_in : Names → Names → List ℕ → written_function.Function → Function

@@ -1,5 +1,5 @@
 -- The rules that a tree has to keep. Of each there is the list of the places where it fails, in order of the text.
-use Rattle.std.specs.Prelude.{◌≡◌, ℕ, ◌+◌, List, [], ◌∷◌, ◌++◌, length, sum, map, Option, None, Some, is_none, Bool, true, false, not, ◌&&◌, nat_eq, nat_lt}
+use Rattle.std.specs.Prelude.{◌≡◌, ℕ, ◌+◌, List, [], ◌∷◌, ◌++◌, length, sum, map, Option, Some, is_none, Bool, true, false, not, ◌&&◌, nat_eq, nat_lt}
 use Rattle.std.specs.List.{flat_map, list_any, slice_get}
 use Rattle.std.specs.Option.{option_map_or, option_and_then}
 use Rattle.std.specs.Str.{bytes_eq}
@@ -26,6 +26,11 @@ use Rattle.mm_tool.specs.WrittenType.{written_fold, at_of}
 abbrev pub place_if : Bool → Place → List Place
 place_if true at = at ∷ []
 place_if false at = []
+
+-- what a rule says of the call with which a block ends, if it does
+abbrev pub of_call : (Call → List Place) → End → List Place
+of_call says ends.Return = []
+of_call says (ends.Call call) = says call
 
 -- ---- UnknownName
 
@@ -67,11 +72,7 @@ unknown_in_call paths scope f call =
     ++ place_if (not (nat_lt call.target.number (length f.blocks))) call.target.at
 
 unfoldable pub unknown_in_block : Names → Names → Function → Block → List Place
-unknown_in_block paths scope f block = in_end block.end
-  where
-    in_end : End → List Place
-    in_end ends.Return = []
-    in_end (ends.Call call) = unknown_in_call paths scope f call
+unknown_in_block paths scope f block = of_call (unknown_in_call paths scope f) block.end
 
 unfoldable pub unknown_in_blocks : Names → Names → Function → List Block → List Place
 unknown_in_blocks paths scope f blocks = flat_map (unknown_in_block paths scope f) blocks
@@ -126,11 +127,7 @@ unfoldable pub misfit_call : Names → List Function → Call → List Place
 misfit_call paths functions call = option_map_or (λ callee. place_if (not (fits call callee)) call.callee.at) (function_at paths functions (path_named call.callee)) []
 
 unfoldable pub misfit_block : Names → List Function → Block → List Place
-misfit_block paths functions block = in_end block.end
-  where
-    in_end : End → List Place
-    in_end ends.Return = []
-    in_end (ends.Call call) = misfit_call paths functions call
+misfit_block paths functions block = of_call (misfit_call paths functions) block.end
 
 unfoldable pub misfits_in_function : Names → List Function → Function → List Place
 misfits_in_function paths functions f = flat_map (misfit_block paths functions) f.blocks
@@ -161,11 +158,7 @@ unfoldable pub long_types : List written.Type → List Place
 long_types types = flat_map long_type types
 
 unfoldable pub long_in_block : Block → List Place
-long_in_block block = in_end block.end
-  where
-    in_end : End → List Place
-    in_end ends.Return = []
-    in_end (ends.Call call) = long_types call.args
+long_in_block block = of_call (λ call. long_types call.args) block.end
 
 unfoldable pub long_in_blocks : List Block → List Place
 long_in_blocks blocks = flat_map long_in_block blocks

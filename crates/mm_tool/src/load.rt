@@ -21,13 +21,12 @@ mod types;
 mod unknown_name;
 mod wrong_arity;
 
-pub use load_error::LoadError;
-pub use rule::Rule;
-
 use crate::ast;
 use index::{Index, path_index, paths};
+pub use load_error::LoadError;
 use mm_collect::Program;
 use program::load_program;
+pub use rule::Rule;
 use std::alloc::Global;
 
 /// Asks the rules of a tree in their order. The index is that of the paths of its functions.

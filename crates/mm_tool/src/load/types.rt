@@ -40,7 +40,7 @@ pub fn load_type(alloc: Global, scope: &Index<'_>, ty: &ast::Type) -> Result<Ty,
     if !head.takes(children.len()) {
         return Err(NoMemory);
     }
-    Ty::make(alloc, head, &children)
+    Ty::from_children(alloc, head, children)
 }
 
 #[tactic(auto, unfolding(crate::specs::Meaning::types_of))]
@@ -56,16 +56,12 @@ pub fn load_types(alloc: Global, scope: &Index<'_>, types: &[ast::Type]) -> Resu
 
 /// The type of a result. Where none is written it is `()`.
 #[tactic(auto, unfolding(crate::specs::Meaning::result_of))]
-pub fn load_result(
-    alloc: Global,
-    scope: &Index<'_>,
-    ty: &Option<ast::Type>,
-) -> Result<Ty, NoMemory>
+pub fn load_result(alloc: Global, scope: &Index<'_>, ty: &Option<ast::Type>) -> Result<Ty, NoMemory>
     ensures { IfOk result (λ t. t ≡ result_of (leads scope.now) ty.now) }
 {
     match ty {
         Some(ty) => load_type(alloc, scope, ty),
-        None => Ty::make(alloc, TyHead::Tuple, &[]),
+        None => Ty::from_children(alloc, TyHead::Tuple, Vec::new(alloc)),
     }
 }
 

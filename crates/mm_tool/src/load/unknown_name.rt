@@ -92,7 +92,11 @@ fn check_call(
     check_operands(function, call.operands.as_slice())?;
     let target = call.target;
     let blocks = function.blocks.len();
-    fault_if(target.number as usize >= blocks, Rule::UnknownName, target.at)
+    fault_if(
+        target.number as usize >= blocks,
+        Rule::UnknownName,
+        target.at,
+    )
 }
 
 #[tactic(auto, unfolding(crate::specs::Rules::unknown_in_block))]
@@ -154,11 +158,7 @@ fn check_function(
 
 /// Asks whether each name of these functions leads somewhere.
 #[tactic(auto, unfolding(crate::specs::Rules::unknown_in_functions), using(crate::proofs::AskingLemmas::fault_more))]
-pub fn check(
-    alloc: Global,
-    paths: &Index<'_>,
-    functions: &[ast::Function],
-) -> Result<(), LoadError>
+pub fn check(alloc: Global, paths: &Index<'_>, functions: &[ast::Function]) -> Result<(), LoadError>
     ensures { Tells UnknownName (unknown_in_functions (leads paths.now) functions.now) result }
 {
     for function in functions {

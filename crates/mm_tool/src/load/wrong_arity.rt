@@ -66,11 +66,7 @@ fn check_function(
 
 /// Asks whether each call of these functions fits the one of them to which its path leads.
 #[tactic(auto, unfolding(crate::specs::Rules::misfits_in_functions), using(crate::proofs::AskingLemmas::fault_more))]
-pub fn check(
-    alloc: Global,
-    paths: &Index<'_>,
-    functions: &[ast::Function],
-) -> Result<(), LoadError>
+pub fn check(alloc: Global, paths: &Index<'_>, functions: &[ast::Function]) -> Result<(), LoadError>
     ensures { Tells WrongArity (misfits_in_functions (leads paths.now) functions.now) result }
 {
     for function in functions {

@@ -2,7 +2,7 @@ use Rattle.std.proofs.Common.{subst}
 use Rattle.mm_tool.specs.Asking.{Tells}
 use Rattle.mm_tool.specs.Rules.{place_if}
 use Rattle.mm_tool.specs.declared.load.rule.Rule.TheVariants.{DoubleName}
-use Rattle.mm_tool.proofs.NameLemmas.{was_there}
+use Rattle.mm_tool.proofs.Places.{was_there}
 use Rattle.mm_tool.proofs.load.double_name.check_name.Goals as goal
 
 pub returns-clause-answer : goal.returns-clause-answer

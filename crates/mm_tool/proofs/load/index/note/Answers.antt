@@ -3,7 +3,7 @@ use Rattle.std.proofs.lemmas.Map.Text.{hash_map_updates_str}
 use Rattle.std.specs.Option.{option_or}
 use Rattle.std.specs.Str.{bytes_eq}
 use Rattle.mm_tool.specs.Names.{leads}
-use Rattle.mm_tool.proofs.NameLemmas.{noted_before, noted_now}
+use Rattle.mm_tool.proofs.Places.{noted_now}
 use Rattle.mm_tool.proofs.load.index.note.Goals as goal
 
 pub returns : goal.returns

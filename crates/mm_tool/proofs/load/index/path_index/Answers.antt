@@ -1,6 +1,6 @@
 use Rattle.std.proofs.Common.{◌≡◌, get_or, sym, subst, arith}
 use Rattle.mm_tool.specs.Names.{leads}
-use Rattle.mm_tool.proofs.NameLemmas.{index_more, index_all}
+use Rattle.mm_tool.proofs.Places.{index_more, index_all}
 use Rattle.mm_tool.proofs.load.index.path_index.Goals as goal
 
 pub loop-place-preserved : goal.loop-place-preserved

@@ -1,7 +1,7 @@
 use Rattle.std.proofs.Common.{◌≡◌, ◌<◌, length, map, get_or, sym, ◌∙◌, ap, arith}
 use Rattle.std.proofs.lemmas.List.{get_or-map, length-map}
 use Rattle.mm_tool.specs.Names.{leads}
-use Rattle.mm_tool.proofs.NameLemmas.{index_more, index_all}
+use Rattle.mm_tool.proofs.Places.{index_more, index_all}
 use Rattle.mm_tool.proofs.load.index.type_param_index.Goals as goal
 
 pub loop-place-preserved : goal.loop-place-preserved

@@ -1,4 +1,4 @@
-use Rattle.std.proofs.Common.{◌≡◌, ◌+◌, ◌-◌, ◌≤◌, sum, map, take}
+use Rattle.std.proofs.Common.{◌≡◌, ◌+◌, sum, map, take}
 use Rattle.mm_tool.specs.Rules.{type_length}
 use Rattle.mm_tool.specs.WrittenType.{children_of}
 use Rattle.mm_tool.proofs.load.long_type.+room_after.Given as goal

@@ -13,4 +13,4 @@ returns t c =
     let scope = leads c.args.scope.now in
     let ty = c.args.ty.now in
     let children : c.loop-child.children.items ≡ map (type_of scope) (children_of ty) = c.loop-child.invariant ∙ ap (map (type_of scope)) (take_all c.loop-child.child-index (children_of ty) (omega (arith, ap length c.as_slice-child-items.ensures))) in
-    IfOk-weaker c.make.result _ _ (λ made h. h ∙ ap (node c.load_head-head.result) (c.deref.ensures.value ∙ children) ∙ ap (λ head. node head (map (type_of scope) (children_of ty))) c.load_head-head.ensures ∙ sym (type_of-parts scope ty)) c.make.ensures
+    IfOk-weaker c.from_children.result _ _ (λ made h. h ∙ ap (node c.load_head-head.result) children ∙ ap (λ head. node head (map (type_of scope) (children_of ty))) c.load_head-head.ensures ∙ sym (type_of-parts scope ty)) c.from_children.ensures

@@ -1,6 +1,70 @@
-//! Looking up the names of a tree.
+//! Looking up the names of a tree, and the rules that it has to keep.
+ghost use Rattle.std.specs.Prelude.{◌≡◌, IfOk, Err};
+ghost use Rattle.mm_collect.specs.declared.program.Program.{Program};
+ghost use Rattle.mm_tool.specs.Asking.{Judges};
+ghost use Rattle.mm_tool.specs.Meaning.{IsProgram};
+ghost use Rattle.mm_tool.specs.Names.{leads, paths_in};
+ghost use Rattle.mm_tool.specs.Rules.{IsFirstFault, KeepsRules};
+ghost use Rattle.mm_tool.specs.declared.ast.Crate.{Crate};
+ghost use Rattle.mm_tool.specs.declared.lex.token.Place.{Place};
+ghost use Rattle.mm_tool.specs.declared.load.load_error.LoadError.TheVariants as errors;
+ghost use Rattle.mm_tool.specs.declared.load.rule.Rule as rules;
 
+mod bad_main;
+mod double_name;
 mod index;
+mod load_error;
+mod long_type;
 mod program;
+mod rule;
+mod types;
+mod unknown_name;
+mod wrong_arity;
 
-pub use program::{load, one_program};
+use crate::ast;
+use index::{Index, path_index, paths};
+pub use load_error::LoadError;
+use mm_collect::Program;
+use program::load_program;
+pub use rule::Rule;
+use std::alloc::Global;
+
+/// Asks the rules of a tree in their order. The index is that of the paths of its functions.
+fn check_rules(alloc: Global, paths: &Index<'_>, tree: &ast::Crate) -> Result<(), LoadError>
+    ensures { leads paths.now ≡ paths_in tree.now → Judges tree.now result }
+{
+    let functions = tree.functions.as_slice();
+    unknown_name::check(alloc, paths, functions)?;
+    double_name::check(alloc, functions)?;
+    wrong_arity::check(alloc, paths, functions)?;
+    bad_main::check(alloc, paths, tree)?;
+    long_type::check(functions)
+}
+
+/// The program that a tree means, where it keeps the rules.
+///
+/// # Errors
+///
+/// The first rule that fails, and the first place where it does. Want of memory, which is also the answer where a
+/// written head has children that it does not take, or where there are 2^32 names in a list: no text spells the one,
+/// and none within the limit the other.
+pub fn load(alloc: Global, tree: &ast::Crate) -> Result<Program, LoadError>
+    ensures program { IfOk result (IsProgram tree.now) }
+    ensures fault { (rule : rules.Rule) (at : Place) → result ≡ Err (errors.Rule rule at) → IsFirstFault tree.now rule at }
+{
+    let paths = paths(alloc, tree)?;
+    let index = path_index(alloc, &paths)?;
+    check_rules(alloc, &index, tree)?;
+    Ok(load_program(alloc, &index, tree)?)
+}
+
+/// A tree means one program.
+pub fn one_program()
+    ensures { (tree : Crate) (p q : Program) → IsProgram tree p → IsProgram tree q → p ≡ q }
+{}
+
+/// A tree that keeps the rules has no fault, and a tree has one first fault.
+pub fn one_judgement()
+    ensures kept { (tree : Crate) (rule : rules.Rule) (at : Place) → KeepsRules tree → IsFirstFault tree rule at → ⊥ }
+    ensures one { (tree : Crate) (rule other : rules.Rule) (at there : Place) → IsFirstFault tree rule at → IsFirstFault tree other there → (rule ≡ other) × (at ≡ there) }
+{}

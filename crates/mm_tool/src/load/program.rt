@@ -1,161 +1,152 @@
-ghost use Rattle.std.specs.Prelude.{◌≡◌, [], ◌∷◌, map, length, IfOk};
-ghost use Rattle.mm_tool.specs.Given.{Gives};
-ghost use Rattle.mm_tool.specs.Loading.{end_of, block_of, blocks_of, function_of, functions_of, program_in};
-ghost use Rattle.mm_tool.specs.Meaning.{IsProgram};
-ghost use Rattle.mm_tool.specs.declared.ast.Crate.{Crate};
-ghost use Rattle.mm_collect.specs.declared.program.Program.{Program};
+//! The program of a tree.
+ghost use Rattle.std.specs.Prelude.{◌≡◌, map, IfOk};
+ghost use Rattle.mm_tool.specs.Meaning.{operand_of, call_of, block_of, function_in, function_of, program_in};
+ghost use Rattle.mm_tool.specs.Names.{leads};
 
 use crate::ast;
-use crate::load::index::{find, function_path, index, path_text, paths};
-use crate::text_error::TextError;
-use indexmap::IndexSet;
-use mm_collect::{Block, End, Function, Program};
-use mm_terms::{DefId, Text};
+use crate::load::index::{Index, function_path, path_text, type_param_index};
+use crate::load::types::{copy, load_result, load_types, place};
+use mm_collect::{Block, Call, End, Function, Operand, Program};
+use mm_terms::{DefId, NoMemory};
 use sqlite_items::Items;
-use std::alloc::{AllocError, Global};
+use std::alloc::Global;
 
-fn def_id(place: usize) -> Result<DefId, TextError>
-    ensures number { IfOk result (λ d. d.0 ≡ place) }
-    ensures fault { result ≡ Err TextError.BadText → ⊥ }
+#[tactic(auto, unfolding(crate::specs::Meaning::operand_of))]
+fn load_operand(operand: ast::Operand) -> Operand
+    ensures { result ≡ operand_of operand }
 {
-    match u32::try_from(place) {
-        Ok(number) => Ok(DefId(number)),
-        Err(_) => Err(TextError::NoMemory),
+    match operand {
+        ast::Operand::Copy(local) => Operand::Copy(local.number),
+        ast::Operand::Move(local) => Operand::Move(local.number),
+        ast::Operand::Number(number) => Operand::Number(number),
+        ast::Operand::Bool(truth) => Operand::Bool(truth),
     }
 }
 
-/// The end of a block in a body of so many blocks.
-#[tactic(auto, unfolding(crate::specs::Loading::end_of))]
-fn end(
-    alloc: Global,
-    index: &IndexSet<&[u8]>,
-    blocks: usize,
-    end: &ast::End,
-) -> Result<End, TextError>
-    ensures { Gives (λ e. e) result (end_of (map (λ k. k.now) index.now.keys) blocks end.now) }
+fn load_operands(alloc: Global, operands: &[ast::Operand]) -> Result<Items<Operand>, NoMemory>
+    ensures { IfOk result (λ os. os ≡ map operand_of operands.now) }
 {
-    let ast::End::Call(call) = end else {
-        return Ok(End::Return);
-    };
-    let path = path_text(
-        alloc,
-        call.callee.krate.as_slice(),
-        call.callee.names.as_slice(),
-    )?;
-    let Some(place) = find(index, path.as_slice()) else {
-        return Err(TextError::BadText);
-    };
-    if call.target as usize >= blocks {
-        return Err(TextError::BadText);
+    let mut loaded = Items::new(alloc);
+    for operand in operands {
+        loaded.push(load_operand(*operand))?;
     }
-    Ok(End::Call(def_id(place)?, call.target))
+    Ok(loaded)
 }
 
-#[tactic(auto, unfolding(crate::specs::Loading::block_of))]
-fn block(
+#[tactic(auto, unfolding(crate::specs::Meaning::call_of))]
+fn load_call(
     alloc: Global,
-    index: &IndexSet<&[u8]>,
-    blocks: usize,
+    paths: &Index<'_>,
+    scope: &Index<'_>,
+    call: &ast::Call,
+) -> Result<Call, NoMemory>
+    ensures { IfOk result (λ c. c ≡ call_of (leads paths.now) (leads scope.now) call.now) }
+{
+    let path = path_text(alloc, &call.callee)?;
+    Ok(Call {
+        callee: DefId(place(paths, path.as_slice())),
+        args: load_types(alloc, scope, call.args.as_slice())?,
+        operands: load_operands(alloc, call.operands.as_slice())?,
+        target: call.target.number,
+    })
+}
+
+#[tactic(auto, unfolding(crate::specs::Meaning::block_of))]
+fn load_block(
+    alloc: Global,
+    paths: &Index<'_>,
+    scope: &Index<'_>,
     block: &ast::Block,
-) -> Result<Block, TextError>
-    ensures { Gives (λ b. b) result (block_of (map (λ k. k.now) index.now.keys) blocks block.now) }
+) -> Result<Block, NoMemory>
+    ensures { IfOk result (λ b. b ≡ block_of (leads paths.now) (leads scope.now) block.now) }
 {
-    Ok(Block {
-        end: end(alloc, index, blocks, &block.end)?,
-    })
+    match &block.end {
+        ast::End::Return => Ok(Block { end: End::Return }),
+        ast::End::Call(call) => Ok(Block {
+            end: End::Call(load_call(alloc, paths, scope, call)?),
+        }),
+    }
 }
 
-#[tactic(auto, unfolding(crate::specs::Loading::blocks_of))]
-fn blocks(
+fn load_blocks(
     alloc: Global,
-    index: &IndexSet<&[u8]>,
-    written: &[ast::Block],
-) -> Result<Items<Block>, TextError>
-    ensures { Gives (λ bs. bs) result (blocks_of (map (λ k. k.now) index.now.keys) written.now) }
+    paths: &Index<'_>,
+    scope: &Index<'_>,
+    blocks: &[ast::Block],
+) -> Result<Items<Block>, NoMemory>
+    ensures { IfOk result (λ bs. bs ≡ map (block_of (leads paths.now) (leads scope.now)) blocks.now) }
 {
     let mut loaded = Items::new(alloc);
-    'each: for part in written {
-        loaded.push(block(alloc, index, written.len(), part)?)?;
+    for block in blocks {
+        loaded.push(load_block(alloc, paths, scope, block)?)?;
     }
     Ok(loaded)
 }
 
-#[tactic(auto, unfolding(crate::specs::Loading::function_of))]
-fn function(
+#[tactic(auto, unfolding(crate::specs::Meaning::function_in))]
+fn load_in_scope(
     alloc: Global,
-    index: &IndexSet<&[u8]>,
+    paths: &Index<'_>,
+    scope: &Index<'_>,
     krate: &[u8],
-    written: &ast::Function,
-) -> Result<Function, TextError>
-    ensures { Gives (λ f. f) result (function_of (map (λ k. k.now) index.now.keys) krate.now written.now) }
+    function: &ast::Function,
+) -> Result<Function, NoMemory>
+    ensures { IfOk result (λ f. f ≡ function_in (leads paths.now) (leads scope.now) krate.now function.now) }
 {
-    let blocks = blocks(alloc, index, written.blocks.as_slice())?;
-    Ok(Function {
-        is_pub: written.is_pub,
-        path: function_path(alloc, krate, written.name.as_slice())?,
-        blocks,
-    })
-}
-
-#[tactic(auto, unfolding(crate::specs::Loading::functions_of))]
-fn functions(
-    alloc: Global,
-    index: &IndexSet<&[u8]>,
-    krate: &[u8],
-    written: &[ast::Function],
-) -> Result<Items<Function>, TextError>
-    ensures { Gives (λ fs. fs) result (functions_of (map (λ k. k.now) index.now.keys) krate.now written.now) }
-{
-    let mut loaded = Items::new(alloc);
-    'each: for part in written {
-        loaded.push(function(alloc, index, krate, part)?)?;
-    }
-    Ok(loaded)
-}
-
-fn copy(alloc: Global, text: &Text) -> Result<Text, AllocError>
-    ensures { IfOk result (λ copy. copy ≡ text.now) }
-{
-    Text::from_slice(alloc, text.as_slice())
-}
-
-/// The program of a tree whose paths are in the index.
-#[tactic(auto, unfolding(crate::specs::Loading::program_in))]
-fn program(alloc: Global, index: &IndexSet<&[u8]>, tree: &ast::Crate) -> Result<Program, TextError>
-    ensures { Gives (λ p. p) result (program_in (map (λ k. k.now) index.now.keys) tree.now) }
-{
-    let path = function_path(alloc, tree.name.as_slice(), b"main")?;
-    let Some(main) = find(index, path.as_slice()) else {
-        return Err(TextError::BadText);
+    let Ok(type_params) = u32::try_from(function.type_params.len()) else {
+        return Err(NoMemory);
     };
-    let functions = functions(
-        alloc,
-        index,
-        tree.name.as_slice(),
-        tree.functions.as_slice(),
-    )?;
+    Ok(Function {
+        is_pub: function.is_pub,
+        path: function_path(alloc, krate, function.name.text.as_slice())?,
+        type_params,
+        params: load_types(alloc, scope, function.params.as_slice())?,
+        result: load_result(alloc, scope, &function.result)?,
+        blocks: load_blocks(alloc, paths, scope, function.blocks.as_slice())?,
+    })
+}
+
+fn load_function(
+    alloc: Global,
+    paths: &Index<'_>,
+    krate: &[u8],
+    function: &ast::Function,
+) -> Result<Function, NoMemory>
+    ensures { IfOk result (λ f. f ≡ function_of (leads paths.now) krate.now function.now) }
+{
+    let scope = type_param_index(alloc, function)?;
+    load_in_scope(alloc, paths, &scope, krate, function)
+}
+
+fn load_functions(
+    alloc: Global,
+    paths: &Index<'_>,
+    krate: &[u8],
+    functions: &[ast::Function],
+) -> Result<Items<Function>, NoMemory>
+    ensures { IfOk result (λ fs. fs ≡ map (function_of (leads paths.now) krate.now) functions.now) }
+{
+    let mut loaded = Items::new(alloc);
+    for function in functions {
+        loaded.push(load_function(alloc, paths, krate, function)?)?;
+    }
+    Ok(loaded)
+}
+
+/// The program of a tree, with each name replaced by the place to which it leads.
+#[tactic(auto, unfolding(crate::specs::Meaning::program_in))]
+pub fn load_program(
+    alloc: Global,
+    paths: &Index<'_>,
+    tree: &ast::Crate,
+) -> Result<Program, NoMemory>
+    ensures { IfOk result (λ p. p ≡ program_in (leads paths.now) tree.now) }
+{
+    let krate = tree.name.as_slice();
+    let main = function_path(alloc, krate, b"main")?;
     Ok(Program {
         krate: copy(alloc, &tree.name)?,
-        functions,
-        main: def_id(main)?,
+        functions: load_functions(alloc, paths, krate, tree.functions.as_slice())?,
+        main: DefId(place(paths, main.as_slice())),
     })
 }
-
-/// The program that a tree means.
-///
-/// # Errors
-///
-/// `BadText` exactly where it means none: a path or a label leads nowhere, two functions have one path, or none is main.
-pub fn load(alloc: Global, tree: &ast::Crate) -> Result<Program, TextError>
-    ensures program { IfOk result (λ p. IsProgram tree.now p) }
-    ensures bad { result ≡ Err TextError.BadText → (p : Program) → IsProgram tree.now p → ⊥ }
-{
-    let paths = paths(alloc, tree)?;
-    let index = index(alloc, &paths)?;
-    program(alloc, &index, tree)
-}
-
-/// A tree means one program.
-pub fn one_program()
-    ensures { (tree : Crate) (p q : Program) → IsProgram tree p → IsProgram tree q → p ≡ q }
-{}

@@ -1,0 +1,7 @@
+use Rattle.std.proofs.Common.{◌≡◌, [], take}
+use Rattle.std.specs.List.{flat_map}
+use Rattle.mm_tool.specs.Rules.{long_in_function}
+use Rattle.mm_tool.proofs.load.long_type.check.Given as goal
+
+abbrev pub invariant-loop-function : goal.invariant-loop-function
+invariant-loop-function l = flat_map long_in_function (take l.function-index l.functions) ≡ []

@@ -1,0 +1,31 @@
+//! The function with which a run begins.
+ghost use Rattle.std.specs.Prelude.{◌≡◌};
+ghost use Rattle.mm_tool.specs.Asking.{Tells};
+ghost use Rattle.mm_tool.specs.Names.{leads};
+ghost use Rattle.mm_tool.specs.Rules.{is_bare, bad_main};
+ghost use Rattle.mm_tool.specs.declared.load.rule.Rule.TheVariants.{BadMain};
+
+use crate::ast;
+use crate::load::index::{Index, function_at, function_path};
+use crate::load::load_error::{LoadError, fault_if};
+use crate::load::rule::Rule;
+use std::alloc::Global;
+
+/// Whether a function has neither type parameters nor parameters.
+fn is_bare(function: &ast::Function) -> bool
+    ensures { result ≡ is_bare function.now }
+{
+    function.type_params.len() == 0 && function.params.len() == 0
+}
+
+/// Asks whether the crate has a function `main` without type parameters and parameters.
+#[tactic(auto, unfolding(crate::specs::Rules::bad_main))]
+pub fn check(alloc: Global, paths: &Index<'_>, tree: &ast::Crate) -> Result<(), LoadError>
+    ensures { Tells BadMain (bad_main (leads paths.now) tree.now) result }
+{
+    let path = function_path(alloc, tree.name.as_slice(), b"main")?;
+    match function_at(paths, tree.functions.as_slice(), path.as_slice()) {
+        Some(main) => fault_if(!is_bare(main), Rule::BadMain, main.at),
+        None => Err(LoadError::Rule(Rule::BadMain, tree.at)),
+    }
+}

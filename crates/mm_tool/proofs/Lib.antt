@@ -1,7 +1,6 @@
-pub mod CommandLines
-pub mod CommandNumbers
 pub mod Givens
 pub mod GrammarReads
+pub mod Levels
 pub mod LexFrontLaws
 pub mod LexMarkLemmas
 pub mod LexNameLemmas
@@ -9,13 +8,8 @@ pub mod LexNumberLemmas
 pub mod LexRunLemmas
 pub mod LexTextLaws
 pub mod LexWordLemmas
-pub mod Loads
 pub mod Loops
-pub mod Meanings
-pub mod OneOrder
-pub mod OneReport
-pub mod Places
 pub mod Readers
-pub mod Reports
-pub mod SortedLines
 pub mod TokenCodes
+pub mod TokenReads
+pub mod TypeReads

@@ -7,11 +7,5 @@ pub mod LexReading
 pub mod LexText
 pub mod LexTokens
 pub mod LexWords
-pub mod Listing
-pub mod Loading
-pub mod Meaning
 pub mod Parsing
 pub mod Reading
-pub mod Report
-pub mod WordReading
-pub mod Words

@@ -1,3 +1,10 @@
+pub mod AskingLemmas
+pub mod CommandLines
+pub mod CommandNumbers
+pub mod Givens
+pub mod GrammarReads
+pub mod Judgements
+pub mod Levels
 pub mod LexFrontLaws
 pub mod LexMarkLemmas
 pub mod LexNameLemmas
@@ -5,5 +12,16 @@ pub mod LexNumberLemmas
 pub mod LexRunLemmas
 pub mod LexTextLaws
 pub mod LexWordLemmas
+pub mod Loops
+pub mod Meanings
+pub mod OneOrder
+pub mod OneReport
+pub mod Places
+pub mod Readers
+pub mod Reports
 pub mod SortedLines
+pub mod TokenCodes
+pub mod TokenReads
+pub mod TypeReads
 pub mod TypeTextLemmas
+pub mod WrittenLemmas

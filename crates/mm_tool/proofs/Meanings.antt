@@ -1,28 +1,27 @@
--- A text has one list of tokens, one tree and one program.
-use Rattle.std.proofs.Common.{◌≡◌, ℕ, List, Result, Err, subst}
+-- A text has one list of tokens, one tree and one program, and a fault leaves it none.
+use Rattle.std.proofs.Common.{◌≡◌, ℕ, List, [], ◌∷◌, Some, Result, Err, refl, sym, ◌∙◌, subst}
+use Rattle.std.specs.List.{slice_get}
 use Rattle.std.specs.Str.{chars}
 use Rattle.mm_collect.specs.declared.program.Program.{Program}
 use Rattle.mm_tool.specs.declared.ast.Crate.{Crate}
+use Rattle.mm_tool.specs.declared.lex.token.Place.{Place}
 use Rattle.mm_tool.specs.declared.lex.token.Token.{Token}
+use Rattle.mm_tool.specs.declared.load.load_error.LoadError as errors
+use Rattle.mm_tool.specs.declared.load.load_error.LoadError.TheVariants.{Rule as Broken, NoMemory}
+use Rattle.mm_tool.specs.declared.load.rule.Rule.{Rule}
+use Rattle.mm_tool.specs.declared.text_error.TextError.{TextError}
+use Rattle.mm_tool.specs.declared.text_error.TextError.TheVariants as refusals
+use Rattle.mm_tool.specs.Asking.{refusal_of}
 use Rattle.mm_tool.specs.LexText.{AreTokensOf, text_start}
 use Rattle.mm_tool.specs.Grammar as grammar
-use Rattle.mm_tool.specs.Loading.{program_in}
-use Rattle.mm_tool.specs.Meaning.{IsProgram, paths_of}
-use Rattle.mm_tool.specs.Parsing.{text_in}
+use Rattle.mm_tool.specs.Meaning.{IsProgram}
 use Rattle.mm_tool.specs.Report.{Means}
-use Rattle.mm_tool.proofs.GrammarReads.{spelled_is_read}
+use Rattle.mm_tool.specs.Rules.{fails, IsFirstFault}
+use Rattle.mm_tool.proofs.GrammarReads.{tree_one}
 use Rattle.mm_tool.proofs.LexTextLaws.{HaveTokens-one}
-use Rattle.mm_tool.proofs.Loads.{meant_is_loaded}
-use Rattle.mm_tool.proofs.Readers.{ok_same}
 
 pub tokens_one : (text : List ℕ) (a b : List Token) → AreTokensOf text a → AreTokensOf text b → a ≡ b
 tokens_one text a b one other = HaveTokens-one text_start (chars text) a b one.have other.have
-
-pub tree_one : (tokens : List Token) (a b : Crate) → grammar.text a tokens → grammar.text b tokens → a ≡ b
-tree_one tokens a b s t = ok_same (text_in tokens) a b (spelled_is_read tokens a s) (spelled_is_read tokens b t)
-
-pub program_one : (tree : Crate) (p q : Program) → IsProgram tree p → IsProgram tree q → p ≡ q
-program_one tree p q s t = ok_same (program_in (paths_of tree) tree) p q (meant_is_loaded tree p s) (meant_is_loaded tree q t)
 
 -- the tree of a text whose tokens are these
 pub tree_of : (text : List ℕ) (tokens : List Token) (p : Program) → AreTokensOf text tokens → (m : Means text p) → grammar.text m.tree tokens
@@ -33,7 +32,22 @@ pub program_of : (text : List ℕ) (tokens : List Token) (tree : Crate) (p : Pro
 program_of text tokens tree p lexed spelled m = subst (λ t. IsProgram t p) (tree_one tokens m.tree tree (tree_of text tokens p lexed m) spelled) m.loaded
 
 pub meaning_one : (text : List ℕ) (p q : Program) → Means text p → Means text q → p ≡ q
-meaning_one text p q m n = program_one n.tree p q (program_of text n.tokens n.tree p n.lexed n.spelled m) n.loaded
+meaning_one text p q m n =
+    let is = program_of text n.tokens n.tree p n.lexed n.spelled m in
+    is.means ∙ sym n.loaded.means
+
+none_first : (places : List Place) (at : Place) → places ≡ [] → slice_get places 0 ≡ Some at → ⊥
+none_first [] at none first = cc
+none_first (p ∷ ps) at none first = cc
+
+-- a tree with a fault means no program
+fault_or_program : (tree : Crate) (rule : Rule) (at : Place) (p : Program) → IsFirstFault tree rule at → IsProgram tree p → ⊥
+fault_or_program tree rule at p fault is = none_first (fails rule tree) at (is.kept rule) fault.first
+
+-- nor does one that was refused
+pub refused : (tree : Crate) (e : errors.LoadError) (p : Program) → ((rule : Rule) (at : Place) → e ≡ Broken rule at → IsFirstFault tree rule at) → refusal_of e ≡ refusals.BadText → IsProgram tree p → ⊥
+refused tree (Broken rule at) p fault bad is = fault_or_program tree rule at p (fault rule at refl) is
+refused tree NoMemory p fault bad is = cc
 
 -- the error that a call handed on
 pub handed_on : {A E : Type 0} (r : Result A E) (x y e : E) → r ≡ Err x → x ≡ y → r ≡ Err e → y ≡ e

@@ -1,8 +1,8 @@
 -- Readers that decide by one token, and the language that each reads.
-use Rattle.std.proofs.Common.{◌≡◌, ℕ, zero, suc, ◌+◌, ◌≤◌, List, [], ◌∷◌, ◌++◌, length, Bool, true, false, cond, ◌&&◌, ◌||◌, not, eqb, Result, Ok, Err, refl, sym, ◌∙◌, ap, subst, append_assoc, arith, inl, inr, ◌⊎◌, length-append, append-nil}
-use Rattle.std.proofs.lemmas.Bool.{cond-true, cond-false, eqb-true, or_cases, or_left, or_right, or_from, and_parts, not-true, cases_Bool, false_from_ne_true, both_ways}
-use Rattle.mm_tool.specs.Language.{◌⋅◌, nothing, each, some}
-use Rattle.mm_tool.specs.Reading.{◌>>=◌, each_in, at_least_one, whole_in, only_if_done}
+use Rattle.std.proofs.Common.{◌≡◌, ℕ, zero, suc, ◌+◌, ◌≤◌, List, [], ◌∷◌, ◌++◌, length, Bool, true, false, cond, ◌&&◌, ◌||◌, not, eqb, ltb, Option, Some, None, Result, Ok, Err, refl, sym, ◌∙◌, ap, subst, append_assoc, arith, inl, inr, ◌⊎◌, length-append, append-nil}
+use Rattle.std.proofs.lemmas.Bool.{cond-true, cond-false, eqb-true, ltb-false, le-ltb, or_cases, or_left, or_right, or_from, and_parts, not-true, cases_Bool, false_from_ne_true, false≢true, both_ways}
+use Rattle.mm_tool.specs.Language.{◌⋅◌, nothing, maybe, if_any, each, some, first_then, at_least}
+use Rattle.mm_tool.specs.Reading.{◌>>=◌, each_in, first_in, any_in, maybe_in, if_so_many, at_least_one, whole_in, only_if_done}
 
 -- whether a number is in a list
 abbrev pub has : ℕ → List ℕ → Bool
@@ -391,3 +391,111 @@ module _ {T : Type 0} (kind : T → ℕ) where
     complete = λ c front rest s stop. bind_at (read (front ++ rest)) (λ x. Ok (make x.0, x.1)) (s.part, rest) (Ok (c, rest)) (one.complete s.part front rest s.spelled stop) (ap (λ a. Ok (a, rest)) (sym s.is));
     begins = λ c front s. one.begins s.part front s.spelled;
   }
+
+  -- nothing is known of the whole before this part
+  pub reads_open : {A : Type 0} {L : A → List T → Type 0} {read : List T → Result (A × List T) (List T)} {f m : List ℕ} {e : Bool}
+      → Reads L read f e m → Reads (λ a ts. Unit {0} × L a ts) read f e m
+  reads_open one = reads_same (λ a ts s. (tt, s)) (λ a ts s. s.1) one
+
+  -- it is read only where this is so
+  pub reads_if : {A : Type 0} {L : A → List T → Type 0} {read : List T → Result (A × List T) (List T)} {f m : List ℕ} {e : Bool}
+      (b : Bool) → Reads L read f e m → Reads (λ a ts. (b ≡ true) × L a ts) (λ ts. cond b (read ts) (Err ts)) f e m
+  reads_if true one = reads_same (λ a ts s. (refl, s)) (λ a ts s. s.1) one
+  reads_if false one = record {
+    sound = λ ts a rest h. cc;
+    complete = λ a front rest s stop. absurd (false≢true s.0);
+    begins = λ a front s. absurd (false≢true s.0);
+  }
+
+  -- a first thing, and the others as long as the next token begins one
+
+  first_complete : {A : Type 0} {L : A → List T → Type 0} {read : List T → Result (A × List T) (List T)} {f g m : List ℕ} (M : ℕ → A → List T → Type 0) (next : ℕ → List T → Result (A × List T) (List T)) (n : List ℕ)
+      (test : List T → Bool) → Reads L read f false m → Reads (each M 0) (λ ts. each_in test next (length ts) 0 ts) g true (g ++ n) → apart m g ≡ true
+      → (xs : List A) (front rest : List T) → first_then L M xs front → Stops ((g ++ n) ++ m) rest → (read (front ++ rest) >>= λ x. first_in test next x.0 x.1) ≡ Ok (xs, rest)
+  first_complete M next n test one others distinct [] front rest s stop = absurd s
+  first_complete {read = read} {g = g} {m = m} M next n test one others distinct (x ∷ xs) front rest s stop =
+      let stops : Stops m (s.back ++ rest) = stops_before m g true s.back rest (others.begins xs s.back s.second) distinct (λ _. stops_right (g ++ n) m rest stop) in
+      let goes : read (front ++ rest) ≡ Ok (x, s.back ++ rest) = ap (λ l. read (l ++ rest)) s.is ∙ ap read (append_assoc s.front s.back rest) ∙ one.complete x s.front (s.back ++ rest) s.first stops in
+      let later : each_in test next (length (s.back ++ rest)) 0 (s.back ++ rest) ≡ Ok (xs, rest) = others.complete xs s.back rest s.second (stops_left (g ++ n) m rest stop) in
+      bind_at (read (front ++ rest)) (λ y. first_in test next y.0 y.1) (x, s.back ++ rest) (Ok (x ∷ xs, rest)) goes (bind_at (each_in test next (length (s.back ++ rest)) 0 (s.back ++ rest)) (λ ys. Ok (x ∷ ys.0, ys.1)) (xs, rest) (Ok (x ∷ xs, rest)) later refl)
+
+  first_begins : {A : Type 0} {L : A → List T → Type 0} {read : List T → Result (A × List T) (List T)} {f m : List ℕ} (M : ℕ → A → List T → Type 0)
+      → Reads L read f false m → (xs : List A) (front : List T) → first_then L M xs front → Begins f false front
+  first_begins M one [] front s = absurd s
+  first_begins {f = f} M one (x ∷ xs) front s = subst (Begins f false) (sym s.is) (begins_first f s.front s.back (one.begins x s.front s.first))
+
+  pub reads_first_then : {A : Type 0} {L : A → List T → Type 0} {M : ℕ → A → List T → Type 0} {read : List T → Result (A × List T) (List T)} {next : ℕ → List T → Result (A × List T) (List T)} {f g m n : List ℕ}
+      (test : List T → Bool) → ((ts : List T) → test ts ≡ begins_in g ts) → Reads L read f false m → ((k : ℕ) → Reads (M k) (next k) g false n) → apart m g ≡ true → apart n g ≡ true
+      → Reads (first_then L M) (λ ts. read ts >>= λ x. first_in test next x.0 x.1) f false ((g ++ n) ++ m)
+  reads_first_then {A = A} {L = L} {M = M} {read = read} {next = next} {f = f} {g = g} {m = m} {n = n} test tells one nexts distinct apart_next =
+      let others : Reads (each M 0) (λ ts. each_in test next (length ts) 0 ts) g true (g ++ n) = reads_each test tells nexts apart_next 0 in
+      record {
+        sound = λ ts xs rest h.
+            let b = bind_ok (read ts) (λ x. first_in test next x.0 x.1) (xs, rest) h in
+            let x = b.0 in
+            let c = bind_ok (each_in test next (length x.1) 0 x.1) (λ ys. Ok (x.0 ∷ ys.0, ys.1)) (xs, rest) b.2 in
+            let ys = c.0 in
+            let both = ok_same (Ok (x.0 ∷ ys.0, ys.1)) (x.0 ∷ ys.0, ys.1) (xs, rest) refl c.2 in
+            let t = one.sound ts x.0 x.1 b.1 in
+            let u = others.sound x.1 ys.0 ys.1 c.1 in
+            record {
+              front = t.front ++ u.front;
+              is = t.is ∙ ap (λ l. t.front ++ l) (u.is ∙ ap (λ p. u.front ++ p.1) both) ∙ sym (append_assoc t.front u.front rest);
+              spelled = subst (λ p. first_then L M p.0 (t.front ++ u.front)) both (record { front = t.front; back = u.front; is = refl; first = t.spelled; second = u.spelled });
+            };
+        complete = λ xs front rest s stop. first_complete M next n test one others distinct xs front rest s stop;
+        begins = λ xs front s. first_begins M one xs front s;
+      }
+
+  -- so many things, or more
+
+  so_many : {A : Type 0} (n : ℕ) (xs ys : List A) (ts rest : List T) → if_so_many n xs ts ≡ Ok (ys, rest) → (n ≤ length xs) × (xs ≡ ys) × (ts ≡ rest)
+  so_many n xs ys ts rest h = elim (cases_Bool (ltb (length xs) n)) [
+    | inl is ↦ (let e = sym (cond-true (ltb (length xs) n) (Err ts) (Ok (xs, ts)) is) ∙ h in cc)
+    | inr isnt ↦ (let both = ok_same (Ok (xs, ts)) (xs, ts) (ys, rest) refl (sym (cond-false (ltb (length xs) n) (Err ts) (Ok (xs, ts)) isnt) ∙ h) in (ltb-false (length xs) n isnt, ap (λ p. p.0) both, ap (λ p. p.1) both))
+  ]
+
+  pub reads_at_least : {A : Type 0} {L : List A → List T → Type 0} {read : List T → Result (List A × List T) (List T)} {f m : List ℕ} {e : Bool}
+      (n : ℕ) → Reads L read f e m → Reads (at_least n L) (λ ts. read ts >>= λ xs. if_so_many n xs.0 xs.1) f e m
+  reads_at_least {L = L} {read = read} n one = record {
+    sound = λ ts xs rest h.
+        let b = bind_ok (read ts) (λ x. if_so_many n x.0 x.1) (xs, rest) h in
+        let same = so_many n b.0.0 xs b.0.1 rest b.2 in
+        let t = one.sound ts xs rest (b.1 ∙ ap (λ l. Ok (l, b.0.1)) same.1 ∙ ap (λ l. Ok (xs, l)) same.2) in
+        record { front = t.front; is = t.is; spelled = (subst (λ l. n ≤ length l) same.1 same.0, t.spelled) };
+    complete = λ xs front rest s stop. bind_at (read (front ++ rest)) (λ x. if_so_many n x.0 x.1) (xs, rest) (Ok (xs, rest)) (one.complete xs front rest s.1 stop) (cond-false (ltb (length xs) n) (Err rest) (Ok (xs, rest)) (le-ltb (length xs) n s.0));
+    begins = λ xs front s. one.begins xs front s.1;
+  }
+
+  -- things that may be left out
+
+  apart_none : (f : List ℕ) → apart f [] ≡ true
+  apart_none [] = refl
+  apart_none (k ∷ f) = apart_none f
+
+  are_any : {A : Type 0} (L : List A → List T → Type 0) → ((ts : List T) → L [] ts → ⊥) → (xs : List A) (ts : List T) → L xs ts ⊎ ((xs ≡ []) × nothing ts) → if_any L xs ts
+  are_any L never [] ts (inl s) = absurd (never ts s)
+  are_any L never (x ∷ xs) ts (inl s) = s
+  are_any L never xs ts (inr n) = subst (λ l. if_any L l ts) (sym n.0) n.1
+
+  of_any : {A : Type 0} (L : List A → List T → Type 0) (xs : List A) (ts : List T) → if_any L xs ts → L xs ts ⊎ ((xs ≡ []) × nothing ts)
+  of_any L [] ts s = inr (refl, s)
+  of_any L (x ∷ xs) ts s = inl s
+
+  pub reads_any : {A : Type 0} {L : List A → List T → Type 0} {read : List T → Result (List A × List T) (List T)} {f m : List ℕ}
+      (test : List T → Bool) → ((ts : List T) → test ts ≡ begins_in f ts) → ((ts : List T) → L [] ts → ⊥) → Reads L read f false m
+      → Reads (if_any L) (any_in test read) (f ++ []) true ((m ++ []) ++ f)
+  reads_any {L = L} {f = f} test tells never one = reads_same (are_any L never) (of_any L) (reads_either test tells one (reads_done (λ xs. xs ≡ []) [] (λ xs k. k) refl) (apart_none f))
+
+  is_there : {A : Type 0} (L : A → List T → Type 0) (o : Option A) (ts : List T) → Made Some L o ts ⊎ ((o ≡ None) × nothing ts) → maybe L o ts
+  is_there L o ts (inl s) = subst (λ p. maybe L p ts) (sym s.is) s.spelled
+  is_there L o ts (inr n) = subst (λ p. maybe L p ts) (sym n.0) n.1
+
+  of_there : {A : Type 0} (L : A → List T → Type 0) (o : Option A) (ts : List T) → maybe L o ts → Made Some L o ts ⊎ ((o ≡ None) × nothing ts)
+  of_there L None ts s = inr (refl, s)
+  of_there L (Some x) ts s = inl (record { part = x; is = refl; spelled = s })
+
+  pub reads_maybe : {A : Type 0} {L : A → List T → Type 0} {read : List T → Result (A × List T) (List T)} {f m : List ℕ}
+      (test : List T → Bool) → ((ts : List T) → test ts ≡ begins_in f ts) → Reads L read f false m
+      → Reads (maybe L) (maybe_in test read) (f ++ []) true ((m ++ []) ++ f)
+  reads_maybe {L = L} {f = f} test tells one = reads_same (is_there L) (of_there L) (reads_either test tells (reads_made Some one) (reads_done (λ o. o ≡ None) None (λ o k. k) refl) (apart_none f))

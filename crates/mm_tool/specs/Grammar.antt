@@ -1,6 +1,7 @@
 -- The grammar of the text language: the tokens that spell each part of a tree.
 -- Over each part stands its rule. Braces repeat, square brackets make optional, quoted words are tokens.
-use Rattle.std.specs.Prelude.{◌≡◌, ℕ, List, [], ◌∷◌}
+use Rattle.std.specs.Prelude.{◌≡◌, ℕ, zero, suc, true, false, List, [], ◌∷◌}
+use Rattle.mm_tool.specs.declared.lex.token.Place.{Place}
 use Rattle.mm_tool.specs.declared.lex.token.Token.{Token}
 use Rattle.mm_tool.specs.declared.lex.token.TokenKind.{TokenKind}
 use Rattle.mm_tool.specs.declared.lex.token.TokenKind.TheVariants as kinds
@@ -10,12 +11,21 @@ use Rattle.mm_tool.specs.declared.lex.mark.Mark.{Mark}
 use Rattle.mm_tool.specs.declared.lex.mark.Mark.TheVariants as marks
 use Rattle.mm_tool.specs.declared.ast.Crate.{Crate}
 use Rattle.mm_tool.specs.declared.ast.Function.{Function}
+use Rattle.mm_tool.specs.declared.ast.Name.{Name}
+use Rattle.mm_tool.specs.declared.ast.Type as written
+use Rattle.mm_tool.specs.declared.ast.Type.TheViews.{out-Type}
+use Rattle.mm_tool.specs.declared.ast.Head.{Head}
+use Rattle.mm_tool.specs.declared.ast.Head.TheVariants as heads
 use Rattle.mm_tool.specs.declared.ast.Block.{Block}
 use Rattle.mm_tool.specs.declared.ast.End.{End}
 use Rattle.mm_tool.specs.declared.ast.End.TheVariants as ends
 use Rattle.mm_tool.specs.declared.ast.Call.{Call}
 use Rattle.mm_tool.specs.declared.ast.Path.{Path}
-use Rattle.mm_tool.specs.Language.{◌⋅◌, optional, each, some}
+use Rattle.mm_tool.specs.declared.ast.Local.{Local}
+use Rattle.mm_tool.specs.declared.ast.Label.{Label}
+use Rattle.mm_tool.specs.declared.ast.Operand.{Operand}
+use Rattle.mm_tool.specs.declared.ast.Operand.TheVariants as operands
+use Rattle.mm_tool.specs.Language.{◌⋅◌, optional, maybe, if_any, each, some, parted, at_least, at_most}
 
 -- one token of this kind, at any place
 pub record One (kind : TokenKind) (tokens : List Token) : Type 0 where
@@ -29,26 +39,86 @@ word w = One (kinds.Word w)
 abbrev pub mark : Mark → List Token → Type 0
 mark m = One (kinds.Mark m)
 
-abbrev pub name : List ℕ → List Token → Type 0
-name bytes = One (kinds.Name bytes)
+abbrev pub named : List ℕ → List Token → Type 0
+named text = One (kinds.Name text)
 
-abbrev pub local : ℕ → List Token → Type 0
-local n = One (kinds.Local n)
+-- the first token stands at this place
+abbrev pub stands_at : Place → List Token → Type 0
+stands_at at [] = ⊥
+stands_at at (t ∷ ts) = t.at ≡ at
 
-abbrev pub label : ℕ → List Token → Type 0
-label n = One (kinds.Label n)
+-- this is spelled, and the place is that of its first token
+abbrev pub from : Place → (List Token → Type 0) → List Token → Type 0
+from at L ts = L ts × stands_at at ts
+
+abbrev pub name : Name → List Token → Type 0
+name n = from n.at (named n.text)
+
+abbrev pub local : Local → List Token → Type 0
+local l = from l.at (One (kinds.Local l.number))
+
+abbrev pub label : Label → List Token → Type 0
+label l = from l.at (One (kinds.Label l.number))
+
+-- x { "," x }
+abbrev pub list : {A : Type 0} → (A → List Token → Type 0) → List A → List Token → Type 0
+list L = parted (mark marks.Comma) L
+
+-- "(" [ list ] ")"
+abbrev pub in_parens : {A : Type 0} → (List A → List Token → Type 0) → List A → List Token → Type 0
+in_parens L xs = mark marks.Open ⋅ if_any L xs ⋅ mark marks.Close
+
+-- [ "<" list ">" ]
+abbrev pub in_angles : {A : Type 0} → (List A → List Token → Type 0) → List A → List Token → Type 0
+in_angles L = if_any (λ xs. mark marks.Less ⋅ L xs ⋅ mark marks.Greater)
+
+-- ty = name | "u64" | "bool" | "(" [ ty "," ty { "," ty } ] ")" | "&" ty | "Box" "<" ty ">" .
+-- The types below the head are spelled as the inner language says.
+abbrev pub shape : (written.«Type» → List Token → Type 0) → Head → List written.«Type» → List Token → Type 0
+shape inner (heads.Param text) [] ts = named text ts
+shape inner heads.U64 [] ts = word words.U64 ts
+shape inner heads.Bool [] ts = word words.Bool ts
+shape inner heads.Tuple tys ts = in_parens (at_least 2 (list inner)) tys ts
+shape inner heads.Ref (t ∷ []) ts = (mark marks.Ampersand ⋅ inner t) ts
+shape inner heads.Boxed (t ∷ []) ts = (word words.BoxType ⋅ mark marks.Less ⋅ inner t ⋅ mark marks.Greater) ts
+shape inner _ _ ts = ⊥
+
+-- a type that nests no deeper than so many levels
+unfoldable pub within : ℕ → written.«Type» → List Token → Type 0
+within zero t ts = ⊥
+within (suc n) t ts = from (out-Type t).at (shape (within n) (out-Type t).head (out-Type t).children) ts
+
+-- a type nests at most 2,048 deep
+abbrev pub ty : written.«Type» → List Token → Type 0
+ty = within 2048
+
+-- args = [ "<" ty { "," ty } ">" ] .
+abbrev pub args : List written.«Type» → List Token → Type 0
+args = in_angles (list ty)
 
 -- "::" name
 abbrev pub segment : ℕ → List ℕ → List Token → Type 0
-segment k n = mark marks.PathSep ⋅ name n
+segment k text = mark marks.PathSep ⋅ named text
 
 -- path = name "::" name { "::" name } .
 abbrev pub path : Path → List Token → Type 0
-path p = name p.krate ⋅ some segment 0 p.names
+path p = from p.at (named p.krate ⋅ some segment 0 p.names)
 
--- call = "call" "_0" "=" path "(" ")" "->" label .
+-- operand = "copy" local | "move" local | number | "true" | "false" .
+abbrev pub operand : Operand → List Token → Type 0
+operand (operands.Copy l) = word words.Copy ⋅ local l
+operand (operands.Move l) = word words.Move ⋅ local l
+operand (operands.Number n) = One (kinds.Number n)
+operand (operands.Bool true) = word words.True
+operand (operands.Bool false) = word words.False
+
+-- "(" ops ")", where ops = [ operand { "," operand } ] .
+abbrev pub ops : List Operand → List Token → Type 0
+ops = in_parens (list operand)
+
+-- call = "call" "_0" "=" path args "(" ops ")" "->" label .
 abbrev pub call : Call → List Token → Type 0
-call c = word words.Call ⋅ local 0 ⋅ mark marks.Equals ⋅ path c.callee ⋅ mark marks.Open ⋅ mark marks.Close ⋅ mark marks.Arrow ⋅ label c.target
+call c = word words.Call ⋅ One (kinds.Local 0) ⋅ mark marks.Equals ⋅ path c.callee ⋅ args c.args ⋅ ops c.operands ⋅ mark marks.Arrow ⋅ label c.target
 
 -- end = "return" | call .
 abbrev pub end : End → List Token → Type 0
@@ -57,16 +127,28 @@ end (ends.Call c) = call c
 
 -- block = label ":" "{" end "}" . The k-th block has the label bb k.
 abbrev pub block : ℕ → Block → List Token → Type 0
-block k b = label k ⋅ mark marks.Colon ⋅ mark marks.OpenBrace ⋅ end b.end ⋅ mark marks.CloseBrace
+block k b = One (kinds.Label k) ⋅ mark marks.Colon ⋅ mark marks.OpenBrace ⋅ end b.end ⋅ mark marks.CloseBrace
 
 -- body = "{" block { block } "}" .
 abbrev pub body : List Block → List Token → Type 0
 body blocks = mark marks.OpenBrace ⋅ some block 0 blocks ⋅ mark marks.CloseBrace
 
--- fn = [ "pub" ] "fn" name "(" ")" body .
+-- params = [ "<" name { "," name } ">" ] .
+abbrev pub type_params : List Name → List Token → Type 0
+type_params = in_angles (list name)
+
+-- "(" tys ")", where tys = [ ty { "," ty } ] . There are at most 65,534.
+abbrev pub params : List written.«Type» → List Token → Type 0
+params = in_parens (at_most 65534 (list ty))
+
+-- "->" ty
+abbrev pub result : written.«Type» → List Token → Type 0
+result t = mark marks.Arrow ⋅ ty t
+
+-- fn = [ "pub" ] "fn" name params "(" tys ")" [ "->" ty ] body .
 abbrev pub function : ℕ → Function → List Token → Type 0
-function k f = optional (word words.Pub) f.is_pub ⋅ word words.Fn ⋅ name f.name ⋅ mark marks.Open ⋅ mark marks.Close ⋅ body f.blocks
+function k f = from f.at (optional (word words.Pub) f.is_pub ⋅ word words.Fn ⋅ name f.name ⋅ type_params f.type_params ⋅ params f.params ⋅ maybe result f.result ⋅ body f.blocks)
 
 -- text = "crate" name ";" { fn } .
 abbrev pub text : Crate → List Token → Type 0
-text c = word words.Crate ⋅ name c.name ⋅ mark marks.Semicolon ⋅ each function 0 c.functions
+text c = from c.at (word words.Crate ⋅ named c.name ⋅ mark marks.Semicolon ⋅ each function 0 c.functions)

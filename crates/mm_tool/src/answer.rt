@@ -32,7 +32,7 @@ pub fn read_program(alloc: Global, text: &[u8]) -> Result<Program, TextError>
 {
     let tokens = lex(alloc, text)?;
     let tree = parse(alloc, &tokens)?;
-    load(alloc, &tree)
+    Ok(load(alloc, &tree)?)
 }
 
 /// A text means one program.

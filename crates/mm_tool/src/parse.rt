@@ -2,6 +2,9 @@
 
 mod body;
 mod krate;
+mod names;
+mod operands;
 mod pieces;
+mod types;
 
 pub use krate::{one_tree, parse};

@@ -162,22 +162,30 @@ fn items_are_listed_in_order_of_bytes(rt: HostRuntime) -> Result<(), Fail> {
         ),
         (
             "crate app; fn unused() { bb0: { return } } fn main() { bb0: { return } } pub fn open() { bb0: { return } }",
-            "app::main app::open",
+            "app::main;app::open",
         ),
         (
             "crate app; fn main() { bb0: { call _0 = app::z() -> bb2 } bb1: { return } bb2: { call _0 = app::z() -> bb1 } } fn a() { bb0: { return } } fn z() { bb0: { call _0 = app::a() -> bb0 } }",
-            "app::a app::main app::z",
+            "app::a;app::main;app::z",
         ),
         (
             "crate app; pub fn f2() { bb0: { return } } pub fn é() { bb0: { return } } pub fn f10() { bb0: { return } } pub fn F() { bb0: { return } } pub fn f() { bb0: { return } } fn main() { bb0: { return } }",
-            "app::F app::f app::f10 app::f2 app::main app::é",
+            "app::F;app::f;app::f10;app::f2;app::main;app::é",
+        ),
+        (
+            "crate app; fn main() { bb0: { call _0 = app::pair<u64, bool>(1, true) -> bb1 } bb1: { return } } fn pair<A, B>(A, B) -> (A, B) { bb0: { call _0 = app::one<(B, A)>(2) -> bb1 } bb1: { call _0 = app::pair<A, B>(move _1, copy _2) -> bb1 } } fn one<A>(u64) { bb0: { call _0 = app::two<&A, Box<A>>() -> bb0 } } fn two<A, B>() { bb0: { return } }",
+            "app::main;app::one<(bool, u64)>;app::pair<u64, bool>;app::two<&(bool, u64), Box<(bool, u64)>>",
+        ),
+        (
+            "crate app; pub fn id<A>(A) -> A { bb0: { call _0 = app::low() -> bb0 } } fn low() { bb0: { return } } fn high() { bb0: { call _0 = app::id<()>(true) -> bb0 } } fn main() { bb0: { call _0 = app::id<((), ())>(0) -> bb0 } }",
+            "app::id<((),())>;app::low;app::main",
         ),
     ];
     let alloc = rt.alloc();
-    for (text, paths) in rows {
+    for (text, items) in rows {
         let mut listing = String::new(alloc);
-        for path in paths.split(' ') {
-            write!(listing, "MONO_ITEM fn {path}\n")?;
+        for item in items.split(';') {
+            write!(listing, "MONO_ITEM fn {item}\n")?;
         }
         let (status, output) = answer(alloc, &["list"], text.as_bytes())?;
         assert_eq!(rt; status, 0, "{text}");
@@ -187,8 +195,34 @@ fn items_are_listed_in_order_of_bytes(rt: HostRuntime) -> Result<(), Fail> {
 }
 
 #[test]
+fn types_that_are_too_long_are_refused(rt: HostRuntime) -> Result<(), Fail> {
+    let boxes = b"crate app; fn main() { bb0: { call _0 = app::f<u64>() -> bb0 } } fn f<T>() { bb0: { call _0 = app::f<Box<T>>() -> bb0 } }";
+    let pairs = b"crate app; fn main() { bb0: { call _0 = app::g<()>() -> bb1 } bb1: { call _0 = app::f<()>() -> bb1 } } fn f<T>() { bb0: { call _0 = app::f<(T, T)>() -> bb0 } } fn g<T>() { bb0: { call _0 = app::g<(T, T)>() -> bb0 } }";
+    let once = b"crate app; fn main() { bb0: { call _0 = app::f<(u64, u64), bool>() -> bb0 } } fn f<A, B>() { bb0: { return } }";
+    let few: &[&str] = &["list", "--items=3", "--length=3"];
+    let long: &[&str] = &["list", "--items=4", "--length=3"];
+    let four: &[&str] = &["list", "--length=4"];
+    let rows: [(&[u8], &[&str], u8, &str); 7] = [
+        (boxes, &["list"], 6, "error: type length 513 in app::f\n"),
+        (boxes, long, 6, "error: type length 4 in app::f\n"),
+        (boxes, few, 5, "error: more than 3 items in crate app\n"),
+        (pairs, &["list"], 6, "error: type length 1023 in app::f\n"),
+        (once, long, 6, "error: type length 4 in app::f\n"),
+        (once, four, 0, "MONO_ITEM fn app::f<(u64, u64), bool>\nMONO_ITEM fn app::main\n"),
+        (once, &["list", "--length=4", "--items=1"], 5, "error: more than 1 items in crate app\n"),
+    ];
+    let alloc = rt.alloc();
+    for (text, words, status, written) in rows {
+        let (answered, output) = answer(alloc, words, text)?;
+        assert_eq!(rt; answered, status, "{words:?}");
+        assert_eq!(rt; output.as_slice(), written.as_bytes(), "{words:?}");
+    }
+    Ok(())
+}
+
+#[test]
 fn bad_texts_are_refused(rt: HostRuntime) -> Result<(), Fail> {
-    let rows: [&[u8]; 21] = [
+    let rows: [&[u8]; 32] = [
         b"",
         b"\xff",
         b"crate app",
@@ -199,7 +233,7 @@ fn bad_texts_are_refused(rt: HostRuntime) -> Result<(), Fail> {
         b"crate app; fn main() { bb0: { return } } }",
         b"crate app; fn main() { bb0: { return } } crate app;",
         b"crate app; pub pub fn main() { bb0: { return } }",
-        b"crate app; fn main() -> () { bb0: { return } }",
+        b"crate app; fn main() -> { bb0: { return } }",
         b"crate app; fn main() { }",
         b"crate app; fn main() { bb1: { return } }",
         b"crate app; fn main() { bb1: { return } bb0: { return } }",
@@ -210,6 +244,17 @@ fn bad_texts_are_refused(rt: HostRuntime) -> Result<(), Fail> {
         b"crate app; fn main() { bb0: { call _0 = main() -> bb0 } }",
         b"crate app; fn main() { bb0: { call _1 = app::main() -> bb0 } }",
         b"crate app; fn main() { bb0: { call _0 = app::main() -> bb1 } }",
+        b"crate app; fn main<T>() { bb0: { return } }",
+        b"crate app; fn main(u64) { bb0: { return } }",
+        b"crate app; fn main() { bb0: { return } } fn f<>() { bb0: { return } }",
+        b"crate app; fn main() { bb0: { return } } fn f<T, T>() { bb0: { return } }",
+        b"crate app; fn main() { bb0: { return } } fn f<T>((T)) { bb0: { return } }",
+        b"crate app; fn main() { bb0: { return } } fn f<T>() -> U { bb0: { return } }",
+        b"crate app; fn main() { bb0: { return } } fn f<T>(T) { bb0: { call _0 = app::f(copy _1) -> bb0 } }",
+        b"crate app; fn main() { bb0: { return } } fn f<T>(T) { bb0: { call _0 = app::f<T>() -> bb0 } }",
+        b"crate app; fn main() { bb0: { return } } fn f<T>(T) { bb0: { call _0 = app::f<T>(copy _2) -> bb0 } }",
+        b"crate app; fn main() { bb0: { return } } fn f<T>(T) { bb0: { call _0 = app::f<T>(_1) -> bb0 } }",
+        b"crate app; fn main() { bb0: { return } } fn f<T>(T) { bb0: { call _0 = app::f<&T, T>(copy _1) -> bb0 } }",
     ];
     let alloc = rt.alloc();
     for (place, text) in rows.iter().enumerate() {

@@ -8,7 +8,9 @@ ghost use Rattle.mm_tool.specs.declared.lex.token.Token.{Token};
 use crate::ast::{Crate, Function};
 use crate::lex::{Mark, Token, Word};
 use crate::parse::body::body;
-use crate::parse::pieces::{name, past_mark, past_word, starts_word};
+use crate::parse::names::type_params;
+use crate::parse::pieces::{name, past_mark, past_word, place, starts_word, text};
+use crate::parse::types::{params, result_type};
 use crate::text_error::TextError;
 use sqlite_items::Items;
 use std::alloc::Global;
@@ -28,20 +30,26 @@ fn public(tokens: &[Token]) -> Result<(bool, &[Token]), TextError>
 fn function(
     alloc: Global,
     tokens: &[Token],
-    place: usize,
+    number: usize,
 ) -> Result<(Function, &[Token]), TextError>
-    ensures { Gives (λ x. (x.0, x.1.now)) result (function_in place tokens.now) }
+    ensures { Gives (λ x. (x.0, x.1.now)) result (function_in number tokens.now) }
 {
+    let at = place(tokens)?;
     let (is_pub, rest) = public(tokens)?;
     let rest = past_word(Word::Fn, rest)?;
     let (name, rest) = name(alloc, rest)?;
-    let rest = past_mark(Mark::Open, rest)?;
-    let rest = past_mark(Mark::Close, rest)?;
+    let (type_params, rest) = type_params(alloc, rest)?;
+    let (params, rest) = params(alloc, rest)?;
+    let (result_type, rest) = result_type(alloc, rest)?;
     let (blocks, rest) = body(alloc, rest)?;
     Ok((
         Function {
+            at,
             is_pub,
             name,
+            type_params,
+            params,
+            result: result_type,
             blocks,
         },
         rest,
@@ -75,11 +83,19 @@ fn functions(alloc: Global, tokens: &[Token]) -> Result<(Items<Function>, &[Toke
 fn krate(alloc: Global, tokens: &[Token]) -> Result<(Crate, &[Token]), TextError>
     ensures { Gives (λ x. (x.0, x.1.now)) result (crate_in tokens.now) }
 {
+    let at = place(tokens)?;
     let rest = past_word(Word::Crate, tokens)?;
-    let (name, rest) = name(alloc, rest)?;
+    let (name, rest) = text(alloc, rest)?;
     let rest = past_mark(Mark::Semicolon, rest)?;
     let (functions, rest) = functions(alloc, rest)?;
-    Ok((Crate { name, functions }, rest))
+    Ok((
+        Crate {
+            at,
+            name,
+            functions,
+        },
+        rest,
+    ))
 }
 
 #[tactic(auto, unfolding(crate::specs::Parsing::text_in))]

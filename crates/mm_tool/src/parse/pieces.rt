@@ -1,12 +1,14 @@
-ghost use Rattle.std.specs.Prelude.{◌≡◌, [], ◌∷◌, MatchOption, eqb};
+ghost use Rattle.std.specs.Prelude.{◌≡◌, [], ◌∷◌, MatchOption, IfOk, eqb};
 ghost use Rattle.mm_tool.specs.Codes.{word_code};
 ghost use Rattle.mm_tool.specs.Given.{Gives};
-ghost use Rattle.mm_tool.specs.Parsing.{is_word, is_mark, is_local, is_label, is_any_label, starts, past, name_in, label_in};
+ghost use Rattle.mm_tool.specs.Parsing.{is_word, is_mark, is_local, is_label, is_any_label, starts, past, place_in, value_in, text_of, local_of, label_of, number_of, name_in, local_in, label_in};
 
-use crate::lex::{Mark, Token, TokenKind, Word};
+use crate::ast::{Label, Local, Name};
+use crate::lex::{Mark, Place, Token, TokenKind, Word};
 use crate::text_error::TextError;
 use mm_terms::Text;
-use std::alloc::Global;
+use sqlite_items::Items;
+use std::alloc::{AllocError, Global};
 
 /// The first token and the others.
 fn next(tokens: &[Token]) -> Option<(&Token, &[Token])>
@@ -128,8 +130,55 @@ pub fn past_label(number: usize, tokens: &[Token]) -> Result<&[Token], TextError
     }
 }
 
-pub fn label(tokens: &[Token]) -> Result<(u32, &[Token]), TextError>
-    ensures { Gives (λ x. (x.0, x.1.now)) result (label_in tokens.now) }
+/// The place of the first token.
+pub fn place(tokens: &[Token]) -> Result<Place, TextError>
+    ensures { Gives (λ at. at) result (place_in tokens.now) }
+{
+    match next(tokens) {
+        Some((token, _)) => Ok(token.at),
+        None => Err(TextError::BadText),
+    }
+}
+
+/// The bytes of a name.
+pub fn text(alloc: Global, tokens: &[Token]) -> Result<(Text, &[Token]), TextError>
+    ensures { Gives (λ x. (x.0, x.1.now)) result (value_in text_of tokens.now) }
+{
+    let Some((token, rest)) = next(tokens) else {
+        return Err(TextError::BadText);
+    };
+    match &token.kind {
+        TokenKind::Name(name) => Ok((Text::from_slice(alloc, name.as_slice())?, rest)),
+        _ => Err(TextError::BadText),
+    }
+}
+
+pub fn number(tokens: &[Token]) -> Result<(u64, &[Token]), TextError>
+    ensures { Gives (λ x. (x.0, x.1.now)) result (value_in number_of tokens.now) }
+{
+    let Some((token, rest)) = next(tokens) else {
+        return Err(TextError::BadText);
+    };
+    match &token.kind {
+        TokenKind::Number(number) => Ok((*number, rest)),
+        _ => Err(TextError::BadText),
+    }
+}
+
+fn local_number(tokens: &[Token]) -> Result<(u32, &[Token]), TextError>
+    ensures { Gives (λ x. (x.0, x.1.now)) result (value_in local_of tokens.now) }
+{
+    let Some((token, rest)) = next(tokens) else {
+        return Err(TextError::BadText);
+    };
+    match &token.kind {
+        TokenKind::Local(number) => Ok((*number, rest)),
+        _ => Err(TextError::BadText),
+    }
+}
+
+fn label_number(tokens: &[Token]) -> Result<(u32, &[Token]), TextError>
+    ensures { Gives (λ x. (x.0, x.1.now)) result (value_in label_of tokens.now) }
 {
     let Some((token, rest)) = next(tokens) else {
         return Err(TextError::BadText);
@@ -140,14 +189,38 @@ pub fn label(tokens: &[Token]) -> Result<(u32, &[Token]), TextError>
     }
 }
 
-pub fn name(alloc: Global, tokens: &[Token]) -> Result<(Text, &[Token]), TextError>
+#[tactic(auto, unfolding(crate::specs::Parsing::name_in))]
+pub fn name(alloc: Global, tokens: &[Token]) -> Result<(Name, &[Token]), TextError>
     ensures { Gives (λ x. (x.0, x.1.now)) result (name_in tokens.now) }
 {
-    let Some((token, rest)) = next(tokens) else {
-        return Err(TextError::BadText);
-    };
-    match &token.kind {
-        TokenKind::Name(name) => Ok((Text::from_slice(alloc, name.as_slice())?, rest)),
-        _ => Err(TextError::BadText),
-    }
+    let at = place(tokens)?;
+    let (text, rest) = text(alloc, tokens)?;
+    Ok((Name { at, text }, rest))
+}
+
+#[tactic(auto, unfolding(crate::specs::Parsing::local_in))]
+pub fn local(tokens: &[Token]) -> Result<(Local, &[Token]), TextError>
+    ensures { Gives (λ x. (x.0, x.1.now)) result (local_in tokens.now) }
+{
+    let at = place(tokens)?;
+    let (number, rest) = local_number(tokens)?;
+    Ok((Local { at, number }, rest))
+}
+
+#[tactic(auto, unfolding(crate::specs::Parsing::label_in))]
+pub fn label(tokens: &[Token]) -> Result<(Label, &[Token]), TextError>
+    ensures { Gives (λ x. (x.0, x.1.now)) result (label_in tokens.now) }
+{
+    let at = place(tokens)?;
+    let (number, rest) = label_number(tokens)?;
+    Ok((Label { at, number }, rest))
+}
+
+/// A list of one thing.
+pub fn single<T: Drop>(alloc: Global, item: T) -> Result<Items<T>, AllocError>
+    ensures { IfOk result (λ items. items ≡ item ∷ []) }
+{
+    let mut items = Items::new(alloc);
+    items.push(item)?;
+    Ok(items)
 }

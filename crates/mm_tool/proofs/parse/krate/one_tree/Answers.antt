@@ -1,4 +1,4 @@
-use Rattle.mm_tool.proofs.Meanings.{tree_one}
+use Rattle.mm_tool.proofs.GrammarReads.{tree_one}
 use Rattle.mm_tool.proofs.parse.krate.one_tree.Goals as goal
 
 pub returns : goal.returns

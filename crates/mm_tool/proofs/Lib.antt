@@ -1,7 +1,9 @@
+pub mod AskingLemmas
 pub mod CommandLines
 pub mod CommandNumbers
 pub mod Givens
 pub mod GrammarReads
+pub mod Judgements
 pub mod LexFrontLaws
 pub mod LexMarkLemmas
 pub mod LexNameLemmas
@@ -9,7 +11,6 @@ pub mod LexNumberLemmas
 pub mod LexRunLemmas
 pub mod LexTextLaws
 pub mod LexWordLemmas
-pub mod Loads
 pub mod Loops
 pub mod Meanings
 pub mod OneOrder
@@ -19,3 +20,4 @@ pub mod Readers
 pub mod Reports
 pub mod SortedLines
 pub mod TokenCodes
+pub mod WrittenLemmas

@@ -1,18 +1,16 @@
 -- A text has one list of tokens, one tree and one program.
-use Rattle.std.proofs.Common.{◌≡◌, ℕ, List, Result, Err, subst}
+use Rattle.std.proofs.Common.{◌≡◌, ℕ, List, Result, Err, sym, ◌∙◌, subst}
 use Rattle.std.specs.Str.{chars}
 use Rattle.mm_collect.specs.declared.program.Program.{Program}
 use Rattle.mm_tool.specs.declared.ast.Crate.{Crate}
 use Rattle.mm_tool.specs.declared.lex.token.Token.{Token}
 use Rattle.mm_tool.specs.LexText.{AreTokensOf, text_start}
 use Rattle.mm_tool.specs.Grammar as grammar
-use Rattle.mm_tool.specs.Loading.{program_in}
-use Rattle.mm_tool.specs.Meaning.{IsProgram, paths_of}
+use Rattle.mm_tool.specs.Meaning.{IsProgram}
 use Rattle.mm_tool.specs.Parsing.{text_in}
 use Rattle.mm_tool.specs.Report.{Means}
 use Rattle.mm_tool.proofs.GrammarReads.{spelled_is_read}
 use Rattle.mm_tool.proofs.LexTextLaws.{HaveTokens-one}
-use Rattle.mm_tool.proofs.Loads.{meant_is_loaded}
 use Rattle.mm_tool.proofs.Readers.{ok_same}
 
 pub tokens_one : (text : List ℕ) (a b : List Token) → AreTokensOf text a → AreTokensOf text b → a ≡ b
@@ -22,7 +20,7 @@ pub tree_one : (tokens : List Token) (a b : Crate) → grammar.text a tokens →
 tree_one tokens a b s t = ok_same (text_in tokens) a b (spelled_is_read tokens a s) (spelled_is_read tokens b t)
 
 pub program_one : (tree : Crate) (p q : Program) → IsProgram tree p → IsProgram tree q → p ≡ q
-program_one tree p q s t = ok_same (program_in (paths_of tree) tree) p q (meant_is_loaded tree p s) (meant_is_loaded tree q t)
+program_one tree p q s t = s.means ∙ sym t.means
 
 -- the tree of a text whose tokens are these
 pub tree_of : (text : List ℕ) (tokens : List Token) (p : Program) → AreTokensOf text tokens → (m : Means text p) → grammar.text m.tree tokens

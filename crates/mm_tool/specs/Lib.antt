@@ -1,3 +1,4 @@
+pub mod Asking
 pub mod Codes
 pub mod Given
 pub mod Grammar
@@ -8,10 +9,12 @@ pub mod LexText
 pub mod LexTokens
 pub mod LexWords
 pub mod Listing
-pub mod Loading
 pub mod Meaning
+pub mod Names
 pub mod Parsing
 pub mod Reading
 pub mod Report
+pub mod Rules
 pub mod WordReading
 pub mod Words
+pub mod WrittenType

@@ -45,9 +45,9 @@ fn check_rules(alloc: Global, paths: &Index<'_>, tree: &ast::Crate) -> Result<()
 ///
 /// # Errors
 ///
-/// The first rule that fails, and the first place where it does. Want of memory, which is also the answer where a
-/// written head has children that it does not take, or where there are 2^32 names in a list: no text spells the one,
-/// and none within the limit the other.
+/// The first rule that fails, and the first place where it does; and want of memory. That is also the answer where a
+/// written head has children that it does not take, as a tuple of one type, which no text spells, and where a place or
+/// a number of type parameters is 2^32 or more, which none within the limit brings about.
 pub fn load(alloc: Global, tree: &ast::Crate) -> Result<Program, LoadError>
     ensures program { IfOk result (IsProgram tree.now) }
     ensures fault { (rule : rules.Rule) (at : Place) → result ≡ Err (errors.Rule rule at) → IsFirstFault tree.now rule at }
@@ -68,3 +68,6 @@ pub fn one_judgement()
     ensures kept { (tree : Crate) (rule : rules.Rule) (at : Place) → KeepsRules tree → IsFirstFault tree rule at → ⊥ }
     ensures one { (tree : Crate) (rule other : rules.Rule) (at there : Place) → IsFirstFault tree rule at → IsFirstFault tree other there → (rule ≡ other) × (at ≡ there) }
 {}
+
+#[cfg(test)]
+mod tests;

@@ -1,5 +1,5 @@
 -- Which parameters a type has, by its head and its children.
-use Rattle.std.proofs.Common.{◌≡◌, ◌≢◌, ℕ, ◌<◌, ◌≤◌, ◌++◌, take, drop, List, [], length, map, get_or, refl, sym, ap, ◌∙◌, subst as cast, arith}
+use Rattle.std.proofs.Common.{◌≡◌, ℕ, ◌<◌, ◌≤◌, take, List, [], length, get_or, refl, sym, ap, ◌∙◌, subst as cast, arith}
 use Rattle.std.specs.Prelude.{All}
 use Rattle.std.proofs.lemmas.List.Elements.{All-nil, All-cons, All-get_or, All-same}
 use Rattle.std.proofs.lemmas.Grind.{common_steps}
@@ -7,9 +7,8 @@ use Rattle.mm_terms.specs.declared.ty_head.TyHead.{TyHead}
 use Rattle.mm_terms.specs.declared.ty_head.TyHead.TheVariants.{Param}
 use Rattle.mm_terms.specs.declared.tree.Tree.{Tree}
 use Rattle.mm_terms.specs.Order.{number_of}
-use Rattle.mm_terms.specs.Length.{length_of, length_of-parts, length_of-le_lengths_of}
-use Rattle.mm_terms.specs.Substitution.{subst, ParamsBelow, ParamsBelow-param, ParamsBelow-children, ParamsBelow-node, param_of, subst-param, subst-node}
-use Rattle.mm_terms.specs.Tree.{node, head_of, children_of, node-parts}
+use Rattle.mm_terms.specs.Substitution.{ParamsBelow, ParamsBelow-children, ParamsBelow-node, param_of}
+use Rattle.mm_terms.specs.Tree.{head_of, children_of, node-parts}
 
 -- the parameters of a child are below n where those of the type are
 pub child_below : (n : ℕ) (t child : Tree) (k : ℕ) → k < length (children_of t) → child ≡ get_or (children_of t) k child → ParamsBelow n t → ParamsBelow n child

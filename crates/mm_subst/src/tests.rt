@@ -55,12 +55,39 @@ fn arguments_stand_in_place_of_parameters(rt: HostRuntime) -> Result<(), Fail> {
 }
 
 #[test]
-fn parameters_are_below_the_number_of_arguments(rt: HostRuntime) -> Result<(), Fail> {
+fn a_deep_type_is_gone_through(rt: HostRuntime) -> Result<(), Fail> {
     let alloc = rt.alloc();
-    let place = make(alloc, TyHead::Param(2), &[])?;
-    let boxed = make(alloc, TyHead::Boxed, slice::from_ref(&place))?;
-    assert!(rt; !params_below(alloc, &boxed, 2)?);
-    assert!(rt; params_below(alloc, &boxed, 3)?);
+    let number = make(alloc, TyHead::U64, &[])?;
+    let mut deep = make(alloc, TyHead::Param(0), &[])?;
+    for _ in 1..2048 {
+        deep = make(alloc, TyHead::Boxed, slice::from_ref(&deep))?;
+    }
+    assert!(rt; !params_below(alloc, &deep, 0)?);
+    assert!(rt; params_below(alloc, &deep, 1)?);
+    let put = apply(alloc, &deep, slice::from_ref(&number))?;
+    assert_eq!(rt; put.length(), 2048);
+    assert!(rt; params_below(alloc, &put, 0)?);
+    Ok(())
+}
+
+#[test]
+fn lengths_are_told_up_to_the_greatest(rt: HostRuntime) -> Result<(), Fail> {
+    let alloc = rt.alloc();
+    let pair = record(alloc, "00")?;
+    let mut arg = make(alloc, TyHead::Bool, &[])?;
+    for _ in 0..15 {
+        arg = apply(alloc, &pair, slice::from_ref(&arg))?;
+    }
+    let mut written = make(alloc, TyHead::Param(0), &[])?;
+    for _ in 0..16 {
+        written = apply(alloc, &pair, slice::from_ref(&written))?;
+    }
+    let args = slice::from_ref(&arg);
+    let mut types = Tys::new(alloc);
+    types.push(written)?;
+    assert_eq!(rt; applied_length(types.as_slice(), args), Some(u32::MAX));
+    types.push(pair)?;
+    assert_eq!(rt; applied_length(types.as_slice(), args), None);
     Ok(())
 }
 

@@ -1,5 +1,5 @@
 -- Substitution at a type that is taken apart.
-use Rattle.std.proofs.Common.{◌≡◌, ◌+◌, ◌∙◌, ◌≤◌, ◌++◌, ℕ, List, length, drop, map, refl, sym, ap, subst as cast, arith}
+use Rattle.std.proofs.Common.{◌≡◌, ◌+◌, ◌∙◌, ◌≤◌, ◌++◌, ℕ, List, length, drop, sym, ap, subst as cast, arith}
 use Rattle.std.proofs.lemmas.Grind.{common_steps}
 use Rattle.std.specs.Prelude.{All}
 use Rattle.std.proofs.lemmas.List.{length-map}
@@ -21,9 +21,9 @@ module _ (args : List Tree) (t : Tree) where
   pub kept_length : ((children : List Tree) → put args (head_of t) children ≡ node (head_of t) children) → 1 + lengths_of (subst_all args (children_of t)) ≡ length_of (subst args t)
   kept_length stays = sym (ap length_of (kept stays) ∙ length_of-node (head_of t) (subst_all args (children_of t)))
 
--- a head over formed children is formed where it fits so many
-pub same_many : (args : List Tree) (t : Tree) (children : List Tree) → children ≡ subst_all args (children_of t) → IsFormed t → All IsFormed children → IsFormed (node (head_of t) children)
-same_many args t children are formed each =
+-- and the type is formed where it was and each of those is
+pub kept_formed : (args : List Tree) (t : Tree) (children : List Tree) → children ≡ subst_all args (children_of t) → IsFormed t → All IsFormed children → IsFormed (node (head_of t) children)
+kept_formed args t children are formed each =
     let many : length children ≡ length (children_of t) = ap length are ∙ length-map (children_of t) (subst args) in
     IsFormed-node (head_of t) children (cast (FitsHead (head_of t)) (sym many) (IsFormed-head t formed)) each
 

@@ -4,9 +4,17 @@ use std::hash::{DefaultHasher, Hash, Hasher};
 use std::slice;
 use std::test::Fail;
 
+/// The type with this head over these types.
+fn over(alloc: Global, head: TyHead, children: Vec<Ty>) -> Result<Ty, NoMemory> {
+    if !head.takes(children.len()) {
+        return Err(NoMemory);
+    }
+    Ty::from_children(alloc, head, children)
+}
+
 /// The type with this head, and below it `u64` for each `u` and `bool` for each other letter.
 fn make(alloc: Global, head: TyHead, letters: &str) -> Result<Ty, NoMemory> {
-    let mut children = Tys::new(alloc);
+    let mut children = Vec::new(alloc);
     for letter in letters.bytes() {
         let child = if letter == b'u' {
             TyHead::U64
@@ -15,11 +23,7 @@ fn make(alloc: Global, head: TyHead, letters: &str) -> Result<Ty, NoMemory> {
         };
         children.push(Ty::make(alloc, child, &[])?)?;
     }
-    let children = children.as_slice();
-    if !head.takes(children.len()) {
-        return Err(NoMemory);
-    }
-    Ty::make(alloc, head, children)
+    over(alloc, head, children)
 }
 
 fn hash_of<T: Hash>(value: &T) -> u64 {
@@ -34,12 +38,42 @@ fn types_are_made_and_taken_apart(rt: HostRuntime) -> Result<(), Fail> {
     let pair = make(alloc, TyHead::Tuple, "ub")?;
     assert_eq!(rt; pair.head(), TyHead::Tuple);
     assert_eq!(rt; pair.arity(), 2);
+    assert_eq!(rt; pair.as_tree().head, TyHead::Tuple);
+    assert_eq!(rt; pair.as_tree().children.len(), 2);
     let children = pair.children(alloc)?;
     let again = Ty::make(alloc, TyHead::Adt(DefId(0)), children.as_slice())?;
     assert_eq!(rt; again, make(alloc, TyHead::Adt(DefId(0)), "ub")?);
     assert_ne!(rt; again, pair);
     let copies = duplicate_all(alloc, children.as_slice())?;
     assert!(rt; copies.as_slice() == children.as_slice());
+    Ok(())
+}
+
+/// The pair of the type with itself, so many times over.
+fn doubled(alloc: Global, mut ty: Ty, times: u32) -> Result<Ty, NoMemory> {
+    let place = Ty::make(alloc, TyHead::Param(0), &[])?;
+    let mut places = Vec::new(alloc);
+    places.push(place.duplicate(alloc)?)?;
+    places.push(place)?;
+    let pair = over(alloc, TyHead::Tuple, places)?;
+    for _ in 0..times {
+        ty = pair.substitute(alloc, slice::from_ref(&ty))?;
+    }
+    Ok(ty)
+}
+
+#[test]
+fn the_greatest_length_is_told_and_not_made(rt: HostRuntime) -> Result<(), Fail> {
+    let alloc = rt.alloc();
+    let arg = doubled(alloc, make(alloc, TyHead::Bool, "")?, 15)?;
+    assert_eq!(rt; arg.length(), 65_535);
+    let args = slice::from_ref(&arg);
+    let written = doubled(alloc, make(alloc, TyHead::Param(0), "")?, 16)?;
+    assert_eq!(rt; written.length(), 131_071);
+    assert_eq!(rt; written.substituted_length(args), Some(u32::MAX));
+    let boxed = Ty::make(alloc, TyHead::Boxed, slice::from_ref(&written))?;
+    assert_eq!(rt; boxed.substituted_length(args), None);
+    assert!(rt; boxed.substitute(alloc, args).is_err());
     Ok(())
 }
 
@@ -138,19 +172,30 @@ fn heads_of_impls_are_compared_and_copied(rt: HostRuntime) -> Result<(), Fail> {
     Ok(())
 }
 
+/// So many boxes, one in the other, round the type.
+fn boxes(alloc: Global, mut ty: Ty, count: u32) -> Result<Ty, NoMemory> {
+    for _ in 0..count {
+        let mut children = Vec::new(alloc);
+        children.push(ty)?;
+        ty = over(alloc, TyHead::Boxed, children)?;
+    }
+    Ok(ty)
+}
+
 #[test]
 fn a_deep_type_needs_no_more_than_the_stack(rt: HostRuntime) -> Result<(), Fail> {
     let alloc = rt.alloc();
-    let mut ty = Ty::make(alloc, TyHead::U64, &[])?;
-    for _ in 1..2048 {
-        ty = Ty::make(alloc, TyHead::Boxed, slice::from_ref(&ty))?;
-    }
+    let number = make(alloc, TyHead::U64, "")?;
+    let ty = boxes(alloc, number.duplicate(alloc)?, 2047)?;
     assert_eq!(rt; ty.length(), 2048);
-    let copy = ty.duplicate(alloc)?;
+    let written = boxes(alloc, make(alloc, TyHead::Param(0), "")?, 2047)?;
+    let args = slice::from_ref(&number);
+    assert_eq!(rt; written.substituted_length(args), Some(2048));
+    let copy = written.substitute(alloc, args)?;
     assert_eq!(rt; copy, ty);
     assert!(rt; copy <= ty);
     assert_eq!(rt; hash_of(&copy), hash_of(&ty));
-    let item = Item::Glue(copy);
+    let item = Item::Glue(copy.duplicate(alloc)?);
     assert_eq!(rt; item.length(), 2048);
     Ok(())
 }

@@ -1,4 +1,4 @@
-use Rattle.std.proofs.Common.{◌≡◌, ◌∙◌, ◌<◌, sym, ap, subst, length, get_or, arith}
+use Rattle.std.proofs.Common.{◌∙◌, ◌<◌, sym, ap, subst, length}
 use Rattle.mm_terms.specs.Formed.{IsType}
 use Rattle.mm_terms.specs.Length.{length_of}
 use Rattle.mm_terms.specs.Tree.{children_of}

@@ -1,4 +1,4 @@
-use Rattle.std.proofs.Common.{◌≡◌, ◌+◌, ◌<◌, ◌^◌, ◌∙◌, length, sym, ap, subst, arith}
+use Rattle.std.proofs.Common.{◌≡◌, ◌+◌, ◌∙◌, length, sym, ap, subst, arith}
 use Rattle.mm_terms.specs.Formed.{FitsHead}
 use Rattle.mm_terms.specs.Length.{lengths_of, length_of-node}
 use Rattle.mm_terms.proofs.TypeLemmas.{IsType-node}

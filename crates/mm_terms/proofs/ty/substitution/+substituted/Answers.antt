@@ -1,11 +1,10 @@
-use Rattle.std.proofs.Common.{◌≡◌, ◌∙◌, ◌<◌, ◌≤◌, ◌++◌, drop, length, get_or, sym, ap, subst as cast, arith}
+use Rattle.std.proofs.Common.{◌≡◌, ◌∙◌, ◌<◌, ◌≤◌, length, get_or, sym, ap, subst as cast, arith}
 use Rattle.std.specs.Prelude.{All, IfOk}
 use Rattle.std.proofs.lemmas.Grind.{common_steps}
 use Rattle.std.proofs.lemmas.List.Elements.{All-push}
 use Rattle.mm_terms.specs.Formed.{IsFormed, IsFormed-children}
-use Rattle.mm_terms.specs.Substitution.{subst, subst_all}
 use Rattle.mm_terms.specs.Tree.{node, head_of, children_of}
-use Rattle.mm_terms.proofs.PutLemmas.{given, kept, same_many, all_put}
+use Rattle.mm_terms.proofs.PutLemmas.{given, kept, kept_formed, all_put}
 use Rattle.mm_terms.proofs.ty.substitution.+substituted.Goals as goal
 
 pub returns-in-Some-clause-value : goal.returns-in-Some-clause-value
@@ -37,4 +36,4 @@ pub returns-clause-formed : goal.returns-clause-formed
 returns-clause-formed t c =
     let ended = cast (λ list. length list ≤ c.loop-child.child-index) c.as_slice-child-items.ensures c.loop-child-test.false in
     let made = all_put c.args.args.now c.loop-child.children.items (children_of c.args.tree.now) c.loop-child.child-index ended c.loop-child.invariant.made in
-    λ formed. same_many c.args.args.now c.args.tree.now c.from_vec.result (c.from_vec.ensures ∙ made) formed (cast (All IsFormed) (sym c.from_vec.ensures) (c.loop-child.invariant.formed formed))
+    λ formed. kept_formed c.args.args.now c.args.tree.now c.from_vec.result (c.from_vec.ensures ∙ made) formed (cast (All IsFormed) (sym c.from_vec.ensures) (c.loop-child.invariant.formed formed))

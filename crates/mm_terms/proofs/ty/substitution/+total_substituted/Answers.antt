@@ -1,4 +1,4 @@
-use Rattle.std.proofs.Common.{◌≡◌, ◌∙◌, sym, ap, arith}
+use Rattle.std.proofs.Common.{◌∙◌, sym, ap, arith}
 use Rattle.mm_terms.specs.Length.{length_of}
 use Rattle.mm_terms.proofs.PutLemmas.{given, kept_length}
 use Rattle.mm_terms.proofs.ty.substitution.+total_substituted.Goals as goal

@@ -1,7 +1,7 @@
 -- The roots among the first functions, one function more, and all of them; and the marks of what generic bodies name.
-use Rattle.std.proofs.Common.{◌≡◌, ◌≢◌, ℕ, ◌+◌, ◌<◌, ◌≤◌, List, [], ◌∷◌, ◌++◌, ◌||◌, length, take, map, set, Bool, cond, get_or, nat_eq, ap, ◌∙◌, sym, refl, true, false, zero-add, append-nil, append_assoc, arith, subst}
+use Rattle.std.proofs.Common.{◌≡◌, ℕ, ◌+◌, ◌<◌, ◌≤◌, List, [], ◌∷◌, ◌++◌, ◌||◌, length, take, map, set, Bool, cond, get_or, nat_eq, ap, ◌∙◌, sym, refl, true, false, zero-add, append-nil, append_assoc, arith, subst}
 use Rattle.std.specs.Prelude.{filter, flat_map}
-use Rattle.std.specs.List.{enumerate_from, list_any}
+use Rattle.std.specs.List.{enumerate_from}
 use Rattle.std.proofs.lemmas.Bool.{eqb-true, eqb-false}
 use Rattle.std.proofs.lemmas.Grind.{get_or-set_at}
 use Rattle.std.proofs.lemmas.List.{map-append, take_all, take_more, get_or-set_other, length-set}
@@ -15,7 +15,7 @@ use Rattle.mm_collect.specs.declared.program.Function.{Function}
 use Rattle.mm_collect.specs.declared.program.Block.{Block}
 use Rattle.mm_collect.specs.declared.program.Call.{Call}
 use Rattle.mm_collect.specs.Uses.{end_calls, calls_of}
-use Rattle.mm_collect.specs.Roots.{is_generic, is_named, AreMarks, generic_calls, item_of, is_root, roots_of}
+use Rattle.mm_collect.specs.Roots.{is_generic, is_named, AreMarks, item_of, is_root, roots_of}
 
 -- ---- roots
 

@@ -2,7 +2,7 @@
 --     there are more members than the limit
 --     a member notes an instance that is too long; the least of the notes is told
 --     the members are listed
-use Rattle.std.specs.Prelude.{◌≡◌, ◌≢◌, ℕ, ◌≤◌, List, length, Contains}
+use Rattle.std.specs.Prelude.{◌≢◌, ℕ, ◌≤◌, List, length, Contains}
 use Rattle.std.specs.declared.cmp.Ordering.TheVariants.{Less}
 use Rattle.mm_terms.specs.declared.item.Item.{Item}
 use Rattle.mm_terms.specs.Closure.{IsMember, AreMembers, HasMoreThan}

@@ -37,11 +37,11 @@ fn named_by_generics(alloc: Global, p: &Program) -> Result<Vec<bool>, NoMemory>
 }
 
 /// Whether a function is needed whatever is used. Its id is given too, and whether a generic body names it.
-fn is_root(p: &Program, id: u32, function: &Function, is_named_too: bool) -> bool
-    requires { is_named_too ≡ is_named (generic_calls p.now) id }
+fn is_root(p: &Program, id: u32, function: &Function, named_by_generic: bool) -> bool
+    requires { named_by_generic ≡ is_named (generic_calls p.now) id }
     ensures { result ≡ Roots.is_root p.now (id, function.now) }
 {
-    let is_exported = function.type_params == 0 && (function.is_pub || is_named_too);
+    let is_exported = function.type_params == 0 && (function.is_pub || named_by_generic);
     is_exported || id == p.main.0
 }
 

@@ -9,6 +9,7 @@ use std::test::Fail;
 type Def = (bool, &'static str, u32, &'static [(u32, &'static str)]);
 
 /// What is collected.
+#[derive(Clone, Copy)]
 enum Found {
     /// Instances of these functions at these types, in order of finding.
     Items(&'static [(u32, &'static str)]),
@@ -423,13 +424,21 @@ fn holds(alloc: Global, row: &Row) -> Result<bool, NoMemory> {
         length: row.length,
         items: row.items,
     };
-    match (collect(alloc, &p, &opts), &row.found) {
-        (Ok(items), Found::Items(instances)) => are_instances(alloc, items.as_slice(), instances),
-        (Err(CollectFault::TooMany(limit)), Found::TooMany) => Ok(limit == row.items),
-        (Err(CollectFault::TypeLength(path, length)), Found::TypeLength(expected, most)) => {
-            Ok(path.as_slice() == expected.as_bytes() && length == *most)
+    match collect(alloc, &p, &opts) {
+        Ok(items) => match row.found {
+            Found::Items(instances) => are_instances(alloc, items.as_slice(), instances),
+            _ => Ok(false),
+        },
+        Err(CollectFault::TooMany(limit)) => {
+            Ok(matches!(row.found, Found::TooMany) && limit == row.items)
         }
-        _other => Ok(false),
+        Err(CollectFault::TypeLength(path, length)) => match row.found {
+            Found::TypeLength(expected, most) => {
+                Ok(path.as_slice() == expected.as_bytes() && length == most)
+            }
+            _ => Ok(false),
+        },
+        Err(_other) => Ok(false),
     }
 }
 

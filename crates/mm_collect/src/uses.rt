@@ -1,6 +1,5 @@
-ghost use Rattle.std.specs.Prelude.{◌≡◌, IfOk};
+ghost use Rattle.std.specs.Prelude.{◌≡◌, slice_get, IfOk};
 ghost use Rattle.mm_collect.specs.Uses.{called, function_path, uses_of, notes_of};
-ghost use Rattle.std.specs.Prelude.{slice_get};
 ghost use Rattle.mm_collect.specs.Candidates.{Judges};
 ghost use Rattle.mm_collect.specs.Notes.{IsLeast};
 

@@ -1,8 +1,7 @@
-use Rattle.std.proofs.Common.{rules, subst, ◌∙◌, sym, ap, None, Some, refl}
+use Rattle.std.proofs.Common.{subst, refl}
 use Rattle.std.specs.Prelude.{flat_map}
 use Rattle.mm_collect.specs.Notes.{IsLeast}
 use Rattle.mm_collect.specs.Uses.{notes_of}
-use Rattle.mm_collect.specs.Verdict.{IsTooLong}
 use Rattle.mm_collect.proofs.VerdictLemmas.{none_noted, least_noted, as_told}
 use Rattle.mm_collect.proofs.collection.collect.Goals as goal
 

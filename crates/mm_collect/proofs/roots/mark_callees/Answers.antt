@@ -1,4 +1,4 @@
-use Rattle.std.proofs.Common.{rules, ◌≡◌, ◌≤◌, ◌<◌, length, ap, arith}
+use Rattle.std.proofs.Common.{rules, ap}
 use Rattle.mm_collect.specs.Uses.{end_calls}
 use Rattle.mm_collect.proofs.RootLemmas.{kept_none, kept_one, kept_past, kept_all}
 use Rattle.mm_collect.proofs.roots.mark_callees.Goals as goal

@@ -1,4 +1,4 @@
-use Rattle.std.proofs.Common.{rules, ◌≡◌, [], ◌∷◌, ◌++◌, ap, ◌∙◌, sym}
+use Rattle.std.proofs.Common.{rules, [], ◌∷◌, ◌++◌, ap, ◌∙◌, sym}
 use Rattle.mm_terms.specs.declared.item.Item.TheVariants.{Fn}
 use Rattle.mm_collect.proofs.RootLemmas.{one_taken, one_passed, all_roots}
 use Rattle.mm_collect.proofs.roots.roots.Goals as goal

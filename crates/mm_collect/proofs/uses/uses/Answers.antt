@@ -1,5 +1,5 @@
-use Rattle.std.proofs.Common.{rules, ◌≡◌, ◌≤◌, ◌<◌, ◌++◌, length, ap, sym, subst, ◌∙◌, slice_get, Some}
-use Rattle.mm_collect.specs.Uses.{end_calls, called, uses_of, notes_of}
+use Rattle.std.proofs.Common.{rules, ◌++◌, ap, sym, subst, ◌∙◌}
+use Rattle.mm_collect.specs.Uses.{end_calls, called}
 use Rattle.mm_collect.specs.Notes.{IsLeast}
 use Rattle.mm_collect.specs.Candidates.{Judges}
 use Rattle.mm_collect.specs.declared.uses.Candidate.TheVariants as candidate

@@ -8,3 +8,6 @@ mod pieces;
 mod types;
 
 pub use krate::{one_tree, parse};
+
+#[cfg(test)]
+mod tests;

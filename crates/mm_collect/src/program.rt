@@ -1,6 +1,6 @@
 ghost use Rattle.std.specs.Prelude.{◌≡◌};
 
-use mm_terms::{DefId, Text, Ty, Tys};
+use mm_terms::{DefId, Text, Tys};
 use sqlite_items::Items;
 
 /// A program of one crate.
@@ -19,13 +19,14 @@ pub struct Program {
 pub struct Function {
     /// Whether other crates can name it.
     pub is_pub: bool,
-    /// The crate's name, `::`, and the function's own name.
+    /// The crate's name, the modules' names and the function's own name, parted by `::`.
     pub path: Text,
     /// The number of type parameters. A function that has some is generic.
     pub type_params: u32,
-    /// The types of the parameters.
-    pub params: Tys,
-    pub result: Ty,
+    /// The number of parameters.
+    pub params: u32,
+    /// The types of the locals: first the result, then the parameters, and then the others.
+    pub locals: Tys,
     /// The body: a run of it begins at the first block.
     pub blocks: Items<Block>,
 }
@@ -33,19 +34,81 @@ pub struct Function {
 /// A block of a body. Its label is its place among the blocks, from 0.
 #[derive(Debug, Drop)]
 pub struct Block {
+    pub statements: Items<Statement>,
     pub end: End,
+}
+
+/// What is done before the end of a block, in order.
+#[derive(Debug, Drop)]
+pub enum Statement {
+    /// Writes a value into a place.
+    Set(Place, Rvalue),
+    Print(Operand),
+}
+
+/// Where a value is kept: a local of the body.
+#[derive(Clone, Copy, Debug, PartialEq, Eq, Hash)]
+pub struct Place {
+    pub local: u32,
+}
+
+/// What a value is made of.
+#[derive(Debug, Drop)]
+pub enum Rvalue {
+    Use(Operand),
+    /// The other truth value.
+    Not(Operand),
+    Binary(Op, Operand, Operand),
+}
+
+/// An operation on two numbers.
+#[derive(Clone, Copy, Debug, PartialEq, Eq, Hash)]
+pub enum Op {
+    Add,
+    Sub,
+    Mul,
+    Div,
+    Rem,
+    Eq,
+    Lt,
+}
+
+/// A value that is read.
+#[derive(Debug, Drop)]
+pub enum Operand {
+    /// A copy of what a place has.
+    Copy(Place),
+    /// What a place has; it has no value afterwards.
+    Move(Place),
+    Num(u64),
+    Truth(bool),
 }
 
 /// What is done at the end of a block.
 #[derive(Debug, Drop)]
 pub enum End {
     Return,
+    /// No run comes here.
+    Unreachable,
+    /// Goes on at the block with the label.
+    Goto(u32),
+    /// Goes on at the label of the first arm that has the number of the operand, or else at the last label.
+    Switch(Operand, Items<Arm>, u32),
     Call(Call),
 }
 
-/// A call of a function. Its result goes into local 0.
+/// An arm of a switch.
+#[derive(Clone, Copy, Debug, PartialEq, Eq, Hash)]
+pub struct Arm {
+    pub number: u64,
+    pub label: u32,
+}
+
+/// A call of a function.
 #[derive(Debug, Drop)]
 pub struct Call {
+    /// Where the result goes.
+    pub place: Place,
     pub callee: DefId,
     /// The type arguments of the callee, in which the caller's type parameters may stand.
     pub args: Tys,
@@ -53,17 +116,6 @@ pub struct Call {
     pub operands: Items<Operand>,
     /// The block with which the caller goes on.
     pub target: u32,
-}
-
-/// A value that is handed on. Local 0 is the result, and the parameters follow.
-#[derive(Clone, Copy, Debug, PartialEq, Eq, Hash)]
-pub enum Operand {
-    /// A copy of a local.
-    Copy(u32),
-    /// A local, which has no value afterwards.
-    Move(u32),
-    Number(u64),
-    Bool(bool),
 }
 
 /// How collection is limited.

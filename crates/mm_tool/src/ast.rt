@@ -10,7 +10,7 @@ pub struct Crate {
     /// The place of the word `crate`.
     pub at: Place,
     pub name: Text,
-    pub functions: Items<Function>,
+    pub items: Items<Item>,
 }
 
 /// A name, and its place.
@@ -20,17 +20,36 @@ pub struct Name {
     pub text: Text,
 }
 
+/// A definition, or a module with definitions.
+#[derive(Debug, Drop)]
+pub struct Item {
+    /// The place of its first token.
+    pub at: Place,
+    pub name: Name,
+    pub form: Form,
+    /// What stands in a module. A function has nothing here.
+    pub items: Items<Item>,
+}
+
+/// What an item is.
+#[derive(Debug, Drop)]
+pub enum Form {
+    Module,
+    Function(Function),
+}
+
+/// A function, beside its name.
 #[derive(Debug, Drop)]
 pub struct Function {
-    /// The place of its first token: `pub` where that is written, and else `fn`.
-    pub at: Place,
     pub is_pub: bool,
-    pub name: Name,
     pub type_params: Items<Name>,
     /// The types of the parameters.
     pub params: Items<Type>,
     /// The type of the result, where one is written. Where none is, it is `()`.
     pub result: Option<Type>,
+    /// The types of the locals that stand behind the parameters. The k-th, from 0, has the number 1 + k + the number of
+    /// parameters.
+    pub lets: Items<Type>,
     /// The blocks of its body, at least one. The k-th, from 0, has the label `bb` k.
     pub blocks: Items<Block>,
 }
@@ -62,19 +81,67 @@ pub enum Head {
 /// A basic block.
 #[derive(Debug, Drop)]
 pub struct Block {
+    pub statements: Items<Statement>,
     pub end: End,
+}
+
+#[derive(Debug, Drop)]
+pub enum Statement {
+    /// A local that is written, and what is written into it.
+    Set(Local, Rvalue),
+    Print(Operand),
+}
+
+/// What a value is made of.
+#[derive(Debug, Drop)]
+pub enum Rvalue {
+    Use(Operand),
+    Not(Operand),
+    Binary(Op, Operand, Operand),
+}
+
+/// An operation on two operands: `add`, `sub`, `mul`, `div`, `rem`, `eq` or `lt`.
+#[derive(Clone, Copy, Debug, PartialEq, Eq, Hash)]
+pub enum Op {
+    Add,
+    Sub,
+    Mul,
+    Div,
+    Rem,
+    Eq,
+    Lt,
 }
 
 /// How a block ends.
 #[derive(Debug, Drop)]
 pub enum End {
     Return,
+    Unreachable,
+    Goto(Label),
+    Switch(Switch),
     Call(Call),
 }
 
-/// A call, and the block that the caller goes on with. The result goes into `_0`.
+/// A choice of the block to go on with, by a number.
+#[derive(Debug, Drop)]
+pub struct Switch {
+    pub operand: Operand,
+    pub arms: Items<Arm>,
+    /// Where no arm has the number.
+    pub otherwise: Label,
+}
+
+#[derive(Clone, Copy, Debug, PartialEq, Eq)]
+pub struct Arm {
+    pub number: u64,
+    pub label: Label,
+}
+
+/// A call, and the block that the caller goes on with.
 #[derive(Debug, Drop)]
 pub struct Call {
+    /// Where the result goes.
+    pub place: Local,
     pub callee: Path,
     /// The type arguments of the callee.
     pub args: Items<Type>,

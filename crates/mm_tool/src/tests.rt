@@ -196,9 +196,12 @@ fn items_are_listed_in_order_of_bytes(rt: HostRuntime) -> Result<(), Fail> {
 
 #[test]
 fn types_that_are_too_long_are_refused(rt: HostRuntime) -> Result<(), Fail> {
-    let boxes = b"crate app; fn main() { bb0: { call _0 = app::f<u64>() -> bb0 } } fn f<T>() { bb0: { call _0 = app::f<Box<T>>() -> bb0 } }";
-    let pairs = b"crate app; fn main() { bb0: { call _0 = app::g<()>() -> bb1 } bb1: { call _0 = app::f<()>() -> bb1 } } fn f<T>() { bb0: { call _0 = app::f<(T, T)>() -> bb0 } } fn g<T>() { bb0: { call _0 = app::g<(T, T)>() -> bb0 } }";
-    let once = b"crate app; fn main() { bb0: { call _0 = app::f<(u64, u64), bool>() -> bb0 } } fn f<A, B>() { bb0: { return } }";
+    let boxes =
+        b"crate app; fn main() { bb0: { call _0 = app::f<u64>() -> bb0 } } fn f<T>() { bb0: { call _0 = app::f<Box<T>>() -> bb0 } }";
+    let pairs =
+        b"crate app; fn main() { bb0: { call _0 = app::g<()>() -> bb1 } bb1: { call _0 = app::f<()>() -> bb1 } } fn f<T>() { bb0: { call _0 = app::f<(T, T)>() -> bb0 } } fn g<T>() { bb0: { call _0 = app::g<(T, T)>() -> bb0 } }";
+    let once =
+        b"crate app; fn main() { bb0: { call _0 = app::f<(u64, u64), bool>() -> bb0 } } fn f<A, B>() { bb0: { return } }";
     let few: &[&str] = &["list", "--items=3", "--length=3"];
     let long: &[&str] = &["list", "--items=4", "--length=3"];
     let four: &[&str] = &["list", "--length=4"];
@@ -208,8 +211,18 @@ fn types_that_are_too_long_are_refused(rt: HostRuntime) -> Result<(), Fail> {
         (boxes, few, 5, "error: more than 3 items in crate app\n"),
         (pairs, &["list"], 6, "error: type length 1023 in app::f\n"),
         (once, long, 6, "error: type length 4 in app::f\n"),
-        (once, four, 0, "MONO_ITEM fn app::f<(u64, u64), bool>\nMONO_ITEM fn app::main\n"),
-        (once, &["list", "--length=4", "--items=1"], 5, "error: more than 1 items in crate app\n"),
+        (
+            once,
+            four,
+            0,
+            "MONO_ITEM fn app::f<(u64, u64), bool>\nMONO_ITEM fn app::main\n",
+        ),
+        (
+            once,
+            &["list", "--length=4", "--items=1"],
+            5,
+            "error: more than 1 items in crate app\n",
+        ),
     ];
     let alloc = rt.alloc();
     for (text, words, status, written) in rows {

@@ -74,7 +74,11 @@ fn types_have_one_text_each(rt: HostRuntime) -> Result<(), Fail> {
         (TyHead::Boxed, "u", "Box<u64>"),
         (TyHead::FnPtr, "0", "fnptr() -> ()"),
         (TyHead::FnPtr, "u0", "fnptr(u64) -> ()"),
-        (TyHead::FnPtr, "b2ur", "fnptr(bool,(u64, bool), u64) -> &bool"),
+        (
+            TyHead::FnPtr,
+            "b2ur",
+            "fnptr(bool,(u64, bool), u64) -> &bool",
+        ),
         (TyHead::FnItem(f), "", "fnitem app::f"),
         (TyHead::FnItem(f), "u0", "fnitem app::f<u64,()>"),
         (TyHead::Closure(f), "b", "closure app::f<bool>"),

@@ -1,15 +1,13 @@
-ghost use Rattle.std.specs.Prelude.{◌↔◌, IfOk, IsTrue};
+ghost use Rattle.std.specs.Prelude.{◌↔◌, IsTrue};
 ghost use Rattle.mm_terms.specs.Substitution.{ParamsBelow};
 
-use mm_terms::{NoMemory, Tree, Ty, TyHead};
-use std::alloc::Global;
+use mm_terms::{Tree, Ty, TyHead};
 
-/// Whether every parameter in the type is below a bound. The time grows with the length of the type. Nothing is taken
-/// from the allocator, and no call fails.
-pub fn params_below(_alloc: Global, ty: &Ty, bound: usize) -> Result<bool, NoMemory>
-    ensures { IfOk result (λ below. IsTrue below ↔ ParamsBelow bound ty.now) }
+/// Whether every parameter in the type is below a bound. The time grows with the length of the type.
+pub fn params_below(ty: &Ty, bound: usize) -> bool
+    ensures { IsTrue result ↔ ParamsBelow bound ty.now }
 {
-    Ok(all_below(ty.as_tree(), bound))
+    all_below(ty.as_tree(), bound)
 }
 
 /// The same of a tree.

@@ -62,11 +62,11 @@ fn a_deep_type_is_gone_through(rt: HostRuntime) -> Result<(), Fail> {
     for _ in 1..2048 {
         deep = make(alloc, TyHead::Boxed, slice::from_ref(&deep))?;
     }
-    assert!(rt; !params_below(alloc, &deep, 0)?);
-    assert!(rt; params_below(alloc, &deep, 1)?);
+    assert!(rt; !params_below(&deep, 0));
+    assert!(rt; params_below(&deep, 1));
     let put = apply(alloc, &deep, slice::from_ref(&number))?;
     assert_eq!(rt; put.length(), 2048);
-    assert!(rt; params_below(alloc, &put, 0)?);
+    assert!(rt; params_below(&put, 0));
     Ok(())
 }
 

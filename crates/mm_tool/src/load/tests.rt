@@ -40,8 +40,9 @@ fn texts_that_keep_the_rules(rt: HostRuntime) -> Result<(), Fail> {
         "crate app; fn main() { bb0: { call _0 = app::wide<u64, u64, u64, u64, u64, u64, u64, u64, u64, u64,
              u64, u64, u64, u64, u64, u64, u64, u64, u64, u64, u64, u64, u64, u64, u64, u64, u64, u64, u64, u64,
              u64, u64, u64, u64, u64, u64, u64, u64, u64, bool>(true) -> bb0 } }
-         fn wide<A0, A1, A2, A3, A4, A5, A6, A7, A8, A9, B0, B1, B2, B3, B4, B5, B6, B7, B8, B9, C0, C1, C2, C3,
-             C4, C5, C6, C7, C8, C9, D0, D1, D2, D3, D4, D5, D6, D7, D8, D9>(D9) -> (A0, D8) { bb0: { return } }",
+         fn wide<T0, T1, T2, T3, T4, T5, T6, T7, T8, T9, T10, T11, T12, T13, T14, T15, T16, T17, T18, T19,
+             T20, T21, T22, T23, T24, T25, T26, T27, T28, T29, T30, T31, T32, T33, T34, T35, T36, T37, T38,
+             T39>(T39) -> (T0, T38) { bb0: { return } }",
     ];
     for text in texts {
         assert!(rt; fault_of(alloc, text.as_bytes())?.is_none(), "{text}");

@@ -9,7 +9,6 @@ use Rattle.mm_tool.specs.declared.lex.token.Token.{Token}
 use Rattle.mm_tool.specs.declared.load.load_error.LoadError as errors
 use Rattle.mm_tool.specs.declared.load.load_error.LoadError.TheVariants.{Rule as Broken, NoMemory}
 use Rattle.mm_tool.specs.declared.load.rule.Rule.{Rule}
-use Rattle.mm_tool.specs.declared.text_error.TextError.{TextError}
 use Rattle.mm_tool.specs.declared.text_error.TextError.TheVariants as refusals
 use Rattle.mm_tool.specs.Asking.{refusal_of}
 use Rattle.mm_tool.specs.LexText.{AreTokensOf, text_start}

@@ -6,7 +6,7 @@ use Rattle.mm_collect.specs.declared.program.Program.{Program}
 use Rattle.mm_collect.specs.declared.program.Opts.{Opts}
 use Rattle.mm_collect.proofs.VerdictLemmas.{many_or_long, many_or_accepted, long_or_accepted, one_note_told, one_listing}
 use Rattle.mm_tool.specs.Listing.{line_of, ended}
-use Rattle.mm_tool.specs.Report.{line, IsListed, SaysTooMany, SaysTooLong, IsVerdict, IsAnswer, IsReport}
+use Rattle.mm_tool.specs.Report.{line, IsListed, SaysTooLong, IsVerdict, IsAnswer, IsReport}
 use Rattle.mm_tool.proofs.CommandLines.{command_one}
 use Rattle.mm_tool.proofs.Meanings.{meaning_one}
 use Rattle.mm_tool.proofs.OneOrder.{sorted_one}

@@ -1,5 +1,5 @@
 -- The text of a type by its head.
-use Rattle.std.proofs.Common.{◌≡◌, ◌≢◌, ℕ, ◌-◌, List, [], ◌∷◌, ◌++◌, length, map, take, drop, codes, Result, Ok, Err, OnOk, true, false, cond, refl, sym, ◌∙◌, ap}
+use Rattle.std.proofs.Common.{◌≡◌, ◌≢◌, ℕ, ◌-◌, List, [], ◌∷◌, ◌++◌, length, map, take, drop, codes, Result, Ok, Err, OnOk, false, cond, refl, sym, ◌∙◌, ap}
 use Rattle.std.proofs.lemmas.List.{append_assoc, length-map, take-map, drop-map}
 use Rattle.std.specs.Result.{is_ok}
 use Rattle.mm_terms.specs.declared.ids.DefId.{DefId}
@@ -8,7 +8,7 @@ use Rattle.mm_terms.specs.declared.ty_head.TyHead.TheVariants.{Param, U64, Bool,
 use Rattle.mm_terms.specs.declared.tree.Tree.{Tree}
 use Rattle.mm_terms.specs.Tree.{head_of, children_of, tree_fold-parts}
 use Rattle.mm_collect.specs.declared.program.Program.{Program}
-use Rattle.mm_tool.specs.TypeText.{path_of, opens, list_text, args_text, fnptr_text, layer_text, type_text}
+use Rattle.mm_tool.specs.TypeText.{opens, list_text, args_text, fnptr_text, layer_text, type_text}
 
 -- a head around the texts of its children
 pub type_text-parts : (p : Program) (t : Tree) → type_text p t ≡ layer_text p (head_of t) (map (type_text p) (children_of t))

@@ -1,4 +1,4 @@
-use Rattle.std.proofs.Common.{◌≡◌, Ok, refl, arith}
+use Rattle.std.proofs.Common.{◌≡◌, Ok, arith}
 use Rattle.mm_tool.proofs.CommandNumbers.{number_begins, number_read, read_number}
 use Rattle.mm_tool.proofs.words.number.Goals as goal
 

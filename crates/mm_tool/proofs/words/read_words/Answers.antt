@@ -1,8 +1,7 @@
-use Rattle.std.proofs.Common.{◌≡◌, ℕ, ◌+◌, List, [], ◌∷◌, ◌++◌, map, take, drop, get_or, codes, Bor, refl, sym, ap, ◌∙◌, subst, arith}
+use Rattle.std.proofs.Common.{◌≡◌, ℕ, ◌+◌, List, [], ◌∷◌, map, take, drop, get_or, codes, Bor, refl, sym, ap, ◌∙◌, subst, arith}
 use Rattle.std.proofs.lemmas.List.{map_more, take_all}
-use Rattle.std.specs.Prelude.{IsPermutation}
 use Rattle.mm_tool.specs.WordReading.{Give}
-use Rattle.mm_tool.specs.Words.{AreWords, option_words}
+use Rattle.mm_tool.specs.Words.{AreWords}
 use Rattle.mm_tool.proofs.CommandLines.{added, refused, verb_and_options, around}
 use Rattle.mm_tool.proofs.words.read_words.Goals as goal
 

@@ -330,14 +330,15 @@ fn make(alloc: Global, head: TyHead, children: Vec<Ty>) -> Result<Ty, NoMemory> 
     Ty::from_children(alloc, head, children)
 }
 
-/// The types that the letters spell, each head before its children: `u` for `u64`, `b` for `bool`, `B` for `Box`, `P`
-/// for a pair, and a digit for a type parameter.
+/// The types that the letters spell, each head before its children: `u` for `u64`, `b` for `bool`, `t` for `()`, `B` for
+/// `Box`, `P` for a pair, and a digit for a type parameter.
 fn types(alloc: Global, letters: &str) -> Result<Tys, NoMemory> {
     let mut made = Vec::new(alloc);
     for letter in letters.bytes().rev() {
         let (head, arity) = match letter {
             b'u' => (TyHead::U64, 0),
             b'b' => (TyHead::Bool, 0),
+            b't' => (TyHead::Tuple, 0),
             b'B' => (TyHead::Boxed, 1),
             b'P' => (TyHead::Tuple, 2),
             _ => (TyHead::Param(u32::from(letter.saturating_sub(b'0'))), 0),
@@ -355,16 +356,66 @@ fn types(alloc: Global, letters: &str) -> Result<Tys, NoMemory> {
     Ok(Tys::from_vec(made))
 }
 
+/// A block that has this end alone.
+fn block(alloc: Global, end: End) -> Block {
+    Block {
+        statements: Items::new(alloc),
+        end,
+    }
+}
+
 /// A block that calls a function at these types. Nothing runs it, so it goes on at block 0.
 fn call(alloc: Global, callee: u32, args: Tys) -> Block {
-    Block {
-        end: End::Call(Call {
+    block(
+        alloc,
+        End::Call(Call {
+            place: Place { local: 0 },
             callee: DefId(callee),
             args,
             operands: Items::new(alloc),
             target: 0,
         }),
+    )
+}
+
+/// A statement of each form. What is a number in them is 1.
+fn statements(alloc: Global) -> Result<Items<Statement>, NoMemory> {
+    let place = Place { local: 1 };
+    let mut all = Items::new(alloc);
+    for rvalue in [
+        Rvalue::Use(Operand::Move(place)),
+        Rvalue::Not(Operand::Truth(true)),
+        Rvalue::Binary(Op::Sub, Operand::Copy(place), Operand::Num(1)),
+    ] {
+        all.push(Statement::Set(place, rvalue))?;
     }
+    all.push(Statement::Print(Operand::Copy(place)))?;
+    Ok(all)
+}
+
+/// Blocks with statements, which end in each way, with a call of function 0 before the last one. What else is a number
+/// in them is 1.
+fn each_end(alloc: Global) -> Result<Items<Block>, NoMemory> {
+    let mut arms = Items::new(alloc);
+    arms.push(Arm {
+        number: 1,
+        label: 1,
+    })?;
+    let mut blocks = Items::new(alloc);
+    blocks.push(block(alloc, End::Goto(1)))?;
+    let switch = End::Switch(Operand::Num(1), arms, 1);
+    blocks.push(block(alloc, switch))?;
+    blocks.push(block(alloc, End::Unreachable))?;
+    blocks.push(call(alloc, 0, Tys::new(alloc)))?;
+    blocks.push(block(alloc, End::Return))?;
+    let mut all = Items::new(alloc);
+    for block in blocks {
+        all.push(Block {
+            statements: statements(alloc)?,
+            ..block
+        })?;
+    }
+    Ok(all)
 }
 
 fn function(alloc: Global, def: &Def) -> Result<Function, NoMemory> {
@@ -378,13 +429,13 @@ fn function(alloc: Global, def: &Def) -> Result<Function, NoMemory> {
         let args = types(alloc, letters)?;
         blocks.push(call(alloc, *callee, args))?;
     }
-    blocks.push(Block { end: End::Return })?;
+    blocks.push(block(alloc, End::Return))?;
     Ok(Function {
         is_pub,
         path,
         type_params,
-        params: Tys::new(alloc),
-        result: make(alloc, TyHead::Tuple, Vec::new(alloc))?,
+        params: 0,
+        locals: types(alloc, "t")?,
         blocks,
     })
 }
@@ -518,5 +569,36 @@ fn collects_forty_parameters(rt: HostRuntime) -> Result<(), Fail> {
             Err(CollectFault::TypeLength(_, 40))
         )
     );
+    Ok(())
+}
+
+/// Function 1 is named by no call, neither in `main` nor in a generic body.
+#[test]
+fn only_calls_name_items(rt: HostRuntime) -> Result<(), Fail> {
+    let alloc = rt.alloc();
+    let mut main = function(alloc, &(PRIVATE, "main", 0, &[]))?;
+    main.blocks = each_end(alloc)?;
+    let mut generic = function(alloc, &(PRIVATE, "g", 1, &[]))?;
+    generic.blocks = each_end(alloc)?;
+    let mut functions = Items::new(alloc);
+    functions.push(function(alloc, &(PRIVATE, "p", 0, &[]))?)?;
+    functions.push(function(alloc, &(PRIVATE, "q", 0, &[]))?)?;
+    functions.push(main)?;
+    let p = program(alloc, functions, 2)?;
+    let items = collect(alloc, &p, &Opts::default())?;
+    assert!(rt; are_instances(alloc, items.as_slice(), &[(2, ""), (0, "")])?);
+    let Program {
+        krate,
+        mut functions,
+        main,
+    } = p;
+    functions.push(generic)?;
+    let p = Program {
+        krate,
+        functions,
+        main,
+    };
+    let items = collect(alloc, &p, &Opts::default())?;
+    assert!(rt; are_instances(alloc, items.as_slice(), &[(0, ""), (2, "")])?);
     Ok(())
 }

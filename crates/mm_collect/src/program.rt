@@ -99,12 +99,12 @@ pub enum Operand {
 pub enum End {
     /// Goes back to the caller with what the result's local has.
     Return,
-    /// Says that no run comes here.
+    /// Says that no run comes here. One that does is ended.
     Unreachable,
     /// Goes on at a block.
     Goto(u32),
-    /// Goes on at the block of the first arm whose number the operand is, or at the last one given where there is none. A
-    /// truth value counts as a number: `false` as 0 and `true` as 1.
+    /// Goes on at the block of the first arm that has the operand's number, or else at the last block. As a number,
+    /// `false` is 0 and `true` is 1.
     Switch(Operand, Items<Arm>, u32),
     /// Calls a function, and goes on when it returns.
     Call(Call),

@@ -14,6 +14,8 @@ use Rattle.mm_collect.specs.declared.program.Program.{Program}
 use Rattle.mm_collect.specs.declared.program.Function.{Function}
 use Rattle.mm_collect.specs.declared.program.Block.{Block}
 use Rattle.mm_collect.specs.declared.program.Call.{Call}
+use Rattle.mm_collect.specs.declared.program.End.{End}
+use Rattle.mm_collect.specs.declared.program.End.TheVariants as end
 use Rattle.mm_collect.specs.Uses.{end_calls, calls_of}
 use Rattle.mm_collect.specs.Roots.{is_generic, is_named, AreMarks, item_of, is_root, roots_of}
 
@@ -57,6 +59,14 @@ all_roots p n past =
     ap (λ ones. map instance (filter (is_root p) ones)) (take_all n all (omega (arith, count)))
 
 -- ---- marks
+
+-- every end but a call has none
+pub no_calls : (e : End) → ((call : Call) → e ≡ end.Call call → ⊥) → end_calls e ≡ []
+no_calls (end.Call call) other = absurd (other call refl)
+no_calls end.Return other = refl
+no_calls end.Unreachable other = refl
+no_calls (end.Goto label) other = refl
+no_calls (end.Switch operand arms label) other = refl
 
 -- the calls of the first n blocks
 abbrev pub first_calls : List Block → ℕ → List Call

@@ -12,10 +12,10 @@ use Rattle.mm_collect.specs.declared.program.End.{End}
 use Rattle.mm_collect.specs.declared.program.End.TheVariants as end
 use Rattle.mm_collect.specs.declared.over.Over.{Over}
 
--- the call at the end of a block, where there is one
+-- the call at the end of a block, where there is one. No other end, and no statement, names an item
 abbrev pub end_calls : End → List Call
-end_calls end.Return = []
 end_calls (end.Call call) = call ∷ []
+end_calls _ = []
 
 -- the calls of a body, block by block in order
 abbrev pub calls_of : Function → List Call

@@ -12,7 +12,9 @@ mod uses;
 
 pub use collection::collect;
 pub use fault::CollectFault;
-pub use program::{Block, Call, End, Function, Operand, Opts, Program};
+pub use program::{
+    Arm, Block, Call, End, Function, Op, Operand, Opts, Place, Program, Rvalue, Statement,
+};
 
 #[cfg(test)]
 mod tests;

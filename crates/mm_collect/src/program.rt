@@ -4,11 +4,15 @@ use mm_terms::{DefId, Text, Tys};
 use sqlite_items::Items;
 
 /// A program of one crate.
+///
+/// Functions, blocks, locals and type parameters are named by their places, from 0. That there is something at a place
+/// that is named is not asked here. It is so in a program that was loaded from a text, and a definition over programs
+/// says what holds of any other.
 #[derive(Debug, Drop)]
 pub struct Program {
     /// The crate's name.
     pub krate: Text,
-    /// The functions in order of definition: the place of each, from 0, is its `DefId`.
+    /// The functions in order of definition: the place of each is its `DefId`.
     pub functions: Items<Function>,
     /// The function that a run begins with.
     pub main: DefId,
@@ -23,37 +27,39 @@ pub struct Function {
     pub path: Text,
     /// The number of type parameters. A function that has some is generic.
     pub type_params: u32,
-    /// The number of parameters.
+    /// The number of parameters, which are the locals from 1 on.
     pub params: u32,
-    /// The types of the locals: first the result, then the parameters, and then the others.
+    /// The types of the locals: first that of the result, then those of the parameters, and then those of the others.
     pub locals: Tys,
-    /// The body: a run of it begins at the first block.
+    /// The body. A run of it begins at block 0.
     pub blocks: Items<Block>,
 }
 
-/// A block of a body. Its label is its place among the blocks, from 0.
+/// A block of a body: statements, which are executed in order, and an end.
 #[derive(Debug, Drop)]
 pub struct Block {
     pub statements: Items<Statement>,
     pub end: End,
 }
 
-/// What is done before the end of a block, in order.
-#[derive(Debug, Drop)]
+/// What is done within a block.
+#[derive(Clone, Copy, Debug, PartialEq, Eq, Hash)]
 pub enum Statement {
-    /// Writes a value into a place.
+    /// Makes a value, and then writes it into a place.
     Set(Place, Rvalue),
+    /// Prints a number.
     Print(Operand),
 }
 
-/// Where a value is kept: a local of the body.
+/// Where a value is kept.
 #[derive(Clone, Copy, Debug, PartialEq, Eq, Hash)]
 pub struct Place {
+    /// The local, among those of the function: 0 is the result.
     pub local: u32,
 }
 
-/// What a value is made of.
-#[derive(Debug, Drop)]
+/// How a value is made. Operands are read from left to right.
+#[derive(Clone, Copy, Debug, PartialEq, Eq, Hash)]
 pub enum Rvalue {
     Use(Operand),
     /// The other truth value.
@@ -61,24 +67,28 @@ pub enum Rvalue {
     Binary(Op, Operand, Operand),
 }
 
-/// An operation on two numbers.
+/// An operation on two values. Both are numbers; `Eq` also takes two truth values.
 #[derive(Clone, Copy, Debug, PartialEq, Eq, Hash)]
 pub enum Op {
+    /// The sum, as far as it is in the range of `u64`. So it is with `Sub` and `Mul`.
     Add,
     Sub,
     Mul,
+    /// The quotient without its remainder. As with `Rem`, there is none by 0.
     Div,
     Rem,
+    /// Whether they are equal.
     Eq,
+    /// Whether the first is less than the second.
     Lt,
 }
 
 /// A value that is read.
-#[derive(Debug, Drop)]
+#[derive(Clone, Copy, Debug, PartialEq, Eq, Hash)]
 pub enum Operand {
-    /// A copy of what a place has.
+    /// The value of a place, which keeps it.
     Copy(Place),
-    /// What a place has; it has no value afterwards.
+    /// The value of a place, which has none afterwards.
     Move(Place),
     Num(u64),
     Truth(bool),
@@ -87,17 +97,20 @@ pub enum Operand {
 /// What is done at the end of a block.
 #[derive(Debug, Drop)]
 pub enum End {
+    /// Goes back to the caller with what the result's local has.
     Return,
-    /// No run comes here.
+    /// Says that no run comes here. One that does is ended.
     Unreachable,
-    /// Goes on at the block with the label.
+    /// Goes on at a block.
     Goto(u32),
-    /// Goes on at the label of the first arm that has the number of the operand, or else at the last label.
+    /// Goes on at the block of the first arm that has the operand's number, or else at the last block. As a number,
+    /// `false` is 0 and `true` is 1.
     Switch(Operand, Items<Arm>, u32),
+    /// Calls a function, and goes on when it returns.
     Call(Call),
 }
 
-/// An arm of a switch.
+/// An arm of a switch: a number, and the block that is chosen by it.
 #[derive(Clone, Copy, Debug, PartialEq, Eq, Hash)]
 pub struct Arm {
     pub number: u64,
@@ -107,14 +120,15 @@ pub struct Arm {
 /// A call of a function.
 #[derive(Debug, Drop)]
 pub struct Call {
-    /// Where the result goes.
+    /// Where the result is written.
     pub place: Place,
+    /// The function that is called.
     pub callee: DefId,
-    /// The type arguments of the callee, in which the caller's type parameters may stand.
+    /// The type arguments of the callee. The caller's type parameters may stand in them.
     pub args: Tys,
-    /// What is handed to the callee's parameters, one by one.
+    /// What is handed to the callee's parameters, one by one. They are read from left to right.
     pub operands: Items<Operand>,
-    /// The block with which the caller goes on.
+    /// The block at which the caller goes on.
     pub target: u32,
 }
 

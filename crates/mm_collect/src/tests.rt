@@ -330,14 +330,15 @@ fn make(alloc: Global, head: TyHead, children: Vec<Ty>) -> Result<Ty, NoMemory> 
     Ty::from_children(alloc, head, children)
 }
 
-/// The types that the letters spell, each head before its children: `u` for `u64`, `b` for `bool`, `B` for `Box`, `P`
-/// for a pair, and a digit for a type parameter.
+/// The types that the letters spell, each head before its children: `u` for `u64`, `b` for `bool`, `t` for `()`, `B` for
+/// `Box`, `P` for a pair, and a digit for a type parameter.
 fn types(alloc: Global, letters: &str) -> Result<Tys, NoMemory> {
     let mut made = Vec::new(alloc);
     for letter in letters.bytes().rev() {
         let (head, arity) = match letter {
             b'u' => (TyHead::U64, 0),
             b'b' => (TyHead::Bool, 0),
+            b't' => (TyHead::Tuple, 0),
             b'B' => (TyHead::Boxed, 1),
             b'P' => (TyHead::Tuple, 2),
             _ => (TyHead::Param(u32::from(letter.saturating_sub(b'0'))), 0),
@@ -355,16 +356,57 @@ fn types(alloc: Global, letters: &str) -> Result<Tys, NoMemory> {
     Ok(Tys::from_vec(made))
 }
 
-/// A block that calls a function at these types. Nothing runs it, so it goes on at block 0.
-fn call(alloc: Global, callee: u32, args: Tys) -> Block {
-    Block {
-        end: End::Call(Call {
-            callee: DefId(callee),
-            args,
-            operands: Items::new(alloc),
-            target: 0,
-        }),
+/// A statement of each form. What is a number in them is 1.
+fn statements(alloc: Global) -> Result<Items<Statement>, NoMemory> {
+    let place = Place { local: 1 };
+    let mut all = Items::new(alloc);
+    for rvalue in [
+        Rvalue::Use(Operand::Move(place)),
+        Rvalue::Not(Operand::Truth(true)),
+        Rvalue::Binary(Op::Sub, Operand::Copy(place), Operand::Num(1)),
+    ] {
+        all.push(Statement::Set(place, rvalue))?;
     }
+    all.push(Statement::Print(Operand::Copy(place)))?;
+    Ok(all)
+}
+
+/// A block with statements and this end.
+fn block(alloc: Global, end: End) -> Result<Block, NoMemory> {
+    Ok(Block {
+        statements: statements(alloc)?,
+        end,
+    })
+}
+
+/// A block that calls a function at these types. Nothing runs it, so it goes on at block 0.
+fn call(alloc: Global, callee: u32, args: Tys) -> Result<Block, NoMemory> {
+    let call = Call {
+        place: Place { local: 0 },
+        callee: DefId(callee),
+        args,
+        operands: Items::new(alloc),
+        target: 0,
+    };
+    block(alloc, End::Call(call))
+}
+
+/// A block with each end, where the call is of this function, and neither the first nor the last. What else is a number
+/// in them is 1.
+fn each_end(alloc: Global, callee: u32) -> Result<Items<Block>, NoMemory> {
+    let mut arms = Items::new(alloc);
+    arms.push(Arm {
+        number: 1,
+        label: 1,
+    })?;
+    let mut blocks = Items::new(alloc);
+    blocks.push(block(alloc, End::Goto(1))?)?;
+    let switch = End::Switch(Operand::Num(1), arms, 1);
+    blocks.push(block(alloc, switch)?)?;
+    blocks.push(call(alloc, callee, Tys::new(alloc))?)?;
+    blocks.push(block(alloc, End::Unreachable)?)?;
+    blocks.push(block(alloc, End::Return)?)?;
+    Ok(blocks)
 }
 
 fn function(alloc: Global, def: &Def) -> Result<Function, NoMemory> {
@@ -376,15 +418,15 @@ fn function(alloc: Global, def: &Def) -> Result<Function, NoMemory> {
     let mut blocks = Items::new(alloc);
     for (callee, letters) in calls {
         let args = types(alloc, letters)?;
-        blocks.push(call(alloc, *callee, args))?;
+        blocks.push(call(alloc, *callee, args)?)?;
     }
-    blocks.push(Block { end: End::Return })?;
+    blocks.push(block(alloc, End::Return)?)?;
     Ok(Function {
         is_pub,
         path,
         type_params,
-        params: Tys::new(alloc),
-        result: make(alloc, TyHead::Tuple, Vec::new(alloc))?,
+        params: 0,
+        locals: types(alloc, "t")?,
         blocks,
     })
 }
@@ -467,7 +509,7 @@ fn collects_a_long_chain(rt: HostRuntime) -> Result<(), Fail> {
     for next in 1..2_000 {
         let mut function = function(alloc, &(PRIVATE, "f", 0, &[]))?;
         function.blocks = Items::new(alloc);
-        function.blocks.push(call(alloc, next, Tys::new(alloc)))?;
+        function.blocks.push(call(alloc, next, Tys::new(alloc))?)?;
         functions.push(function)?;
     }
     functions.push(function(alloc, &(PRIVATE, "f", 0, &[]))?)?;
@@ -497,11 +539,11 @@ fn collects_forty_parameters(rt: HostRuntime) -> Result<(), Fail> {
         params.push(make(alloc, TyHead::Param(place % 40), Vec::new(alloc))?)?;
     }
     around.blocks = Items::new(alloc);
-    around.blocks.push(call(alloc, 0, params))?;
+    around.blocks.push(call(alloc, 0, params)?)?;
     let letters = "buuuuuuuuuuuuuuuuuuuuuuuuuuuuuuuuuuuuuuu";
     let mut start = function(alloc, &(PRIVATE, "main", 0, &[]))?;
     start.blocks = Items::new(alloc);
-    start.blocks.push(call(alloc, 0, types(alloc, letters)?))?;
+    start.blocks.push(call(alloc, 0, types(alloc, letters)?)?)?;
     let mut functions = Items::new(alloc);
     functions.push(around)?;
     functions.push(start)?;
@@ -518,5 +560,25 @@ fn collects_forty_parameters(rt: HostRuntime) -> Result<(), Fail> {
             Err(CollectFault::TypeLength(_, 40))
         )
     );
+    Ok(())
+}
+
+/// Function 1 is named by no call: what is 1 in the statements and in the other ends is no function.
+#[test]
+fn only_calls_name_items(rt: HostRuntime) -> Result<(), Fail> {
+    let alloc = rt.alloc();
+    let mut functions = Items::new(alloc);
+    functions.push(function(alloc, &(PRIVATE, "called", 0, &[]))?)?;
+    functions.push(function(alloc, &(PRIVATE, "spare", 0, &[]))?)?;
+    let mut main = function(alloc, &(PRIVATE, "main", 0, &[]))?;
+    main.blocks = each_end(alloc, 0)?;
+    functions.push(main)?;
+    let mut generic = function(alloc, &(PRIVATE, "generic", 1, &[]))?;
+    generic.blocks = each_end(alloc, 4)?;
+    functions.push(generic)?;
+    functions.push(function(alloc, &(PRIVATE, "exported", 0, &[]))?)?;
+    let p = program(alloc, functions, 2)?;
+    let items = collect(alloc, &p, &Opts::default())?;
+    assert!(rt; are_instances(alloc, items.as_slice(), &[(2, ""), (4, ""), (0, "")])?);
     Ok(())
 }

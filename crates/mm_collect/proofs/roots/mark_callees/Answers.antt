@@ -1,6 +1,6 @@
 use Rattle.std.proofs.Common.{rules, ap}
 use Rattle.mm_collect.specs.Uses.{end_calls}
-use Rattle.mm_collect.proofs.RootLemmas.{kept_none, kept_one, kept_past, kept_all}
+use Rattle.mm_collect.proofs.RootLemmas.{no_calls, kept_none, kept_one, kept_past, kept_all}
 use Rattle.mm_collect.proofs.roots.mark_callees.Goals as goal
 use Rattle.mm_collect.proofs.roots.mark_callees.Goals.{in-Call+in-Some, in-Call+in_default-get_mut, in_default}
 
@@ -13,7 +13,7 @@ loop-block-preserved c =
     elim c.match-block.branch [
       | in-Call+in-Some w ↦ kept_one old marks new blocks c.loop-block.block-index c.block-item.result c.loop-block-test.true c.block-item.is c.loop-block.invariant w.in-Call.call (ap end_calls w.in-Call.is) (search rules) (ap (λ v. v.items) w.marks-is)
       | in-Call+in_default-get_mut w ↦ kept_past old marks new blocks c.loop-block.block-index c.block-item.result c.loop-block-test.true c.block-item.is c.loop-block.invariant w.in-Call.call (ap end_calls w.in-Call.is) (search rules) (ap (λ v. v.items) w.marks-is)
-      | in_default w ↦ kept_none old marks new blocks c.loop-block.block-index c.block-item.result c.loop-block-test.true c.block-item.is c.loop-block.invariant (ap end_calls w.in_default.is) (ap (λ v. v.items) w.marks-is)
+      | in_default w ↦ kept_none old marks new blocks c.loop-block.block-index c.block-item.result c.loop-block-test.true c.block-item.is c.loop-block.invariant (no_calls c.block-item.result.end w.in_default.not-Call) (ap (λ v. v.items) w.marks-is)
     ]
 
 pub returns-clause-marked : goal.returns-clause-marked

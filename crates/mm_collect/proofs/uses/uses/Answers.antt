@@ -3,6 +3,7 @@ use Rattle.mm_collect.specs.Uses.{end_calls, called}
 use Rattle.mm_collect.specs.Notes.{IsLeast}
 use Rattle.mm_collect.specs.Candidates.{Judges}
 use Rattle.mm_collect.specs.declared.uses.Candidate.TheVariants as candidate
+use Rattle.mm_collect.proofs.RootLemmas.{no_calls}
 use Rattle.mm_collect.proofs.UseLemmas.{scanned_none, scanned_within, scanned_over, all_uses, all_notes}
 use Rattle.mm_collect.proofs.uses.uses.Goals as goal
 use Rattle.mm_collect.proofs.uses.uses.Goals.{in-Call+in_ok-item+in-Within+in_ok-push-in-Within, in-Call+in_ok-item+in-Over, in_default-end}
@@ -21,7 +22,7 @@ loop-block-preserved c =
           subst (Judges p c.args.limit (called c.in-Fn.args w.in-Call.call)) w.in-Over.is (subst (λ args. Judges p c.args.limit (called args w.in-Call.call) w.in_ok-item.field-0) w.as_slice.ensures w.in_ok-item.ensures) in
           scanned_over p c.args.limit c.in-Fn.args blocks c.loop-block.block-index c.loop-block.used.items c.match-block.used.items c.loop-block.over c.match-block.over c.loop-block.invariant c.block-item.result c.loop-block-test.true c.block-item.is w.in-Call.call (ap end_calls w.in-Call.is) w.in-Over.note judged (ap (λ v. v.items) w.used-is)
           (λ notes others first second. subst (IsLeast (notes ++ others)) (sym w.over-is) (w.least_over-over.ensures notes others first second))
-      | in_default-end w ↦ scanned_none p c.args.limit c.in-Fn.args blocks c.loop-block.block-index c.loop-block.used.items c.match-block.used.items c.loop-block.over c.match-block.over c.loop-block.invariant c.block-item.result c.loop-block-test.true c.block-item.is (ap end_calls w.in_default-end.is) (ap (λ v. v.items) w.used-is) w.over-is
+      | in_default-end w ↦ scanned_none p c.args.limit c.in-Fn.args blocks c.loop-block.block-index c.loop-block.used.items c.match-block.used.items c.loop-block.over c.match-block.over c.loop-block.invariant c.block-item.result c.loop-block-test.true c.block-item.is (no_calls c.block-item.result.end w.in_default-end.not-Call) (ap (λ v. v.items) w.used-is) w.over-is
     ]
 
 pub returns-clause-used : goal.returns-clause-used

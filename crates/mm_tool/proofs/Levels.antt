@@ -1,7 +1,7 @@
--- A type that nests no deeper than so many levels, one level at a time.
+-- Types and modules that nest no deeper than so many levels, one level at a time.
 use Rattle.std.proofs.Common.{◌≡◌, ℕ, zero, suc, ◌-◌, List, Err, refl, sym, ap, arith}
 use Rattle.mm_tool.specs.declared.lex.token.Token.{Token}
-use Rattle.mm_tool.specs.Parsing.{within_in, node_in}
+use Rattle.mm_tool.specs.Parsing.{within_in, node_in, module_within_in, module_in}
 
 pub no_level : (n : ℕ) (ts : List Token) → n ≡ 0 → within_in n ts ≡ Err ts
 unfolding within_in
@@ -11,3 +11,12 @@ pub one_level : (n : ℕ) (ts : List Token) → (n ≡ 0 → ⊥) → within_in 
 unfolding within_in
 one_level zero ts h = absurd (h refl)
 one_level (suc n) ts h = let e : suc n - 1 ≡ n = omega arith in ap (λ m. node_in (within_in m) ts) (sym e)
+
+pub no_module : (n : ℕ) (ts : List Token) → n ≡ 0 → module_within_in n ts ≡ Err ts
+unfolding module_within_in
+no_module n ts e = ap (λ m. module_within_in m ts) e
+
+pub one_module : (n : ℕ) (ts : List Token) → (n ≡ 0 → ⊥) → module_within_in n ts ≡ module_in (module_within_in (n - 1)) ts
+unfolding module_within_in
+one_module zero ts h = absurd (h refl)
+one_module (suc n) ts h = let e : suc n - 1 ≡ n = omega arith in ap (λ m. module_in (module_within_in m) ts) (sym e)

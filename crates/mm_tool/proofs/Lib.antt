@@ -1,8 +1,11 @@
 pub mod AskingLemmas
+pub mod BodyReads
 pub mod CommandLines
 pub mod CommandNumbers
+pub mod EndReads
 pub mod Givens
 pub mod GrammarReads
+pub mod ItemReads
 pub mod Judgements
 pub mod Levels
 pub mod LexFrontLaws
@@ -14,12 +17,15 @@ pub mod LexTextLaws
 pub mod LexWordLemmas
 pub mod Loops
 pub mod Meanings
+pub mod NameReads
 pub mod OneOrder
 pub mod OneReport
+pub mod OperandReads
 pub mod Places
 pub mod Readers
 pub mod Reports
 pub mod SortedLines
+pub mod StatementReads
 pub mod TokenCodes
 pub mod TokenReads
 pub mod TypeReads

@@ -10,7 +10,7 @@ use Rattle.mm_tool.specs.declared.lex.mark.Mark as mark_type
 use Rattle.mm_tool.specs.declared.lex.mark.Mark.TheVariants as marks
 use Rattle.mm_tool.specs.Codes.{word_code, mark_code}
 use Rattle.mm_tool.specs.Grammar.{One}
-use Rattle.mm_tool.specs.Parsing.{is_word, is_mark, is_local, is_label, is_any_label, starts, past}
+use Rattle.mm_tool.specs.Parsing.{is_word, is_mark, is_local, is_label, is_any_label, is_any_local, is_number, starts, past}
 use Rattle.mm_tool.proofs.Readers.{has, begins_in, Skips, Takes, Begins}
 
 -- a number for each kind; names, locals, labels and numbers have one each
@@ -146,6 +146,34 @@ label_test (Word w) = sym (ap (λ d. d || false) (ne_eqb (6 * word_code w + 1) 4
 label_test (Name b) = refl
 label_test (Local b) = refl
 label_test (Number b) = refl
+
+pub local_test : (k : TokenKind) → is_any_local k ≡ has (kind_code k) (3 ∷ [])
+local_test (Label b) = refl
+local_test (Local b) = refl
+local_test (Number b) = refl
+local_test (Name b) = refl
+local_test (Mark m) = sym (ap (λ d. d || false) (ne_eqb (6 * mark_code m) 3 (λ e. omega (arith, e))))
+local_test (Word w) = sym (ap (λ d. d || false) (ne_eqb (6 * word_code w + 1) 3 (λ e. omega (arith, e))))
+
+pub number_test : (k : TokenKind) → is_number k ≡ has (kind_code k) (5 ∷ [])
+number_test (Label b) = refl
+number_test (Local b) = refl
+number_test (Number b) = refl
+number_test (Name b) = refl
+number_test (Mark m) = sym (ap (λ d. d || false) (ne_eqb (6 * mark_code m) 5 (λ e. omega (arith, e))))
+number_test (Word w) = sym (ap (λ d. d || false) (ne_eqb (6 * word_code w + 1) 5 (λ e. omega (arith, e))))
+
+or_assoc : (a b c : Bool) → a || (b || c) ≡ (a || b) || c
+or_assoc true b c = refl
+or_assoc false b c = refl
+
+has_append : (n : ℕ) (ks ls : List ℕ) → has n (ks ++ ls) ≡ has n ks || has n ls
+has_append n [] ls = refl
+has_append n (k ∷ ks) ls = ap (λ c. eqb n k || c) (has_append n ks ls) ∙ or_assoc (eqb n k) (has n ks) (has n ls)
+
+-- either of two tests
+pub or_test : (p q : Bool) (n : ℕ) (ks ls : List ℕ) → p ≡ has n ks → q ≡ has n ls → p || q ≡ has n (ks ++ ls)
+or_test p q n ks ls e f = ap (λ c. c || q) e ∙ ap (λ c. has n ks || c) f ∙ sym (has_append n ks ls)
 
 -- what starts is told by the number of the first token
 pub starts_by : (fits : TokenKind → Bool) (codes : List ℕ) → ((k : TokenKind) → fits k ≡ has (kind_code k) codes) → (ts : List Token) → starts fits ts ≡ begins_in code codes ts

@@ -27,7 +27,7 @@ pub starts_word : (w : Word) (ts : List Token) → parsing.starts (parsing.is_wo
 starts_word w = starts_by (parsing.is_word w) (word_codes w) (word_test w)
 
 -- the kinds with which a type begins
-abbrev type_codes : List ℕ
+abbrev pub type_codes : List ℕ
 type_codes = kind_code (kinds.Word words.U64) ∷ kind_code (kinds.Word words.Bool) ∷ kind_code (kinds.Mark marks.Ampersand) ∷ kind_code (kinds.Word words.BoxType) ∷ kind_code (kinds.Mark marks.Open) ∷ 2 ∷ []
 
 -- one level of a type, over a language of the types below it
@@ -129,7 +129,7 @@ reads_within zero = record {
 }
 reads_within (suc n) = reads_node (reads_within n)
 
-reads_ty : Reads code ty parsing.ty_in type_codes false []
+pub reads_ty : Reads code ty parsing.ty_in type_codes false []
 unfolding parsing.ty_in
 reads_ty = reads_within 2048
 

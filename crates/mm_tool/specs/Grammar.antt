@@ -1,6 +1,6 @@
 -- The grammar of the text language: the tokens that spell each part of a tree.
 -- Over each part stands its rule. Braces repeat, square brackets make optional, quoted words are tokens.
-use Rattle.std.specs.Prelude.{◌≡◌, ℕ, zero, suc, true, false, List, [], ◌∷◌}
+use Rattle.std.specs.Prelude.{◌≡◌, ℕ, zero, suc, ◌+◌, true, false, List, [], ◌∷◌, length}
 use Rattle.mm_tool.specs.declared.lex.token.Place.{Place}
 use Rattle.mm_tool.specs.declared.lex.token.Token.{Token}
 use Rattle.mm_tool.specs.declared.lex.token.TokenKind.{TokenKind}
@@ -10,6 +10,10 @@ use Rattle.mm_tool.specs.declared.lex.word.Word.TheVariants as words
 use Rattle.mm_tool.specs.declared.lex.mark.Mark.{Mark}
 use Rattle.mm_tool.specs.declared.lex.mark.Mark.TheVariants as marks
 use Rattle.mm_tool.specs.declared.ast.Crate.{Crate}
+use Rattle.mm_tool.specs.declared.ast.Item as items
+use Rattle.mm_tool.specs.declared.ast.Item.TheViews.{out-Item}
+use Rattle.mm_tool.specs.declared.ast.Form.{Form}
+use Rattle.mm_tool.specs.declared.ast.Form.TheVariants as forms
 use Rattle.mm_tool.specs.declared.ast.Function.{Function}
 use Rattle.mm_tool.specs.declared.ast.Name.{Name}
 use Rattle.mm_tool.specs.declared.ast.Type as written
@@ -17,8 +21,16 @@ use Rattle.mm_tool.specs.declared.ast.Type.TheViews.{out-Type}
 use Rattle.mm_tool.specs.declared.ast.Head.{Head}
 use Rattle.mm_tool.specs.declared.ast.Head.TheVariants as heads
 use Rattle.mm_tool.specs.declared.ast.Block.{Block}
+use Rattle.mm_tool.specs.declared.ast.Statement.{Statement}
+use Rattle.mm_tool.specs.declared.ast.Statement.TheVariants as statements
+use Rattle.mm_tool.specs.declared.ast.Rvalue.{Rvalue}
+use Rattle.mm_tool.specs.declared.ast.Rvalue.TheVariants as rvalues
+use Rattle.mm_tool.specs.declared.ast.Op.{Op}
+use Rattle.mm_tool.specs.declared.ast.Op.TheVariants as operations
 use Rattle.mm_tool.specs.declared.ast.End.{End}
 use Rattle.mm_tool.specs.declared.ast.End.TheVariants as ends
+use Rattle.mm_tool.specs.declared.ast.Switch.{Switch}
+use Rattle.mm_tool.specs.declared.ast.Arm.{Arm}
 use Rattle.mm_tool.specs.declared.ast.Call.{Call}
 use Rattle.mm_tool.specs.declared.ast.Path.{Path}
 use Rattle.mm_tool.specs.declared.ast.Local.{Local}
@@ -116,22 +128,62 @@ operand (operands.Bool false) = word words.False
 abbrev pub ops : List Operand → List Token → Type 0
 ops = in_parens (list operand)
 
--- call = "call" "_0" "=" path args "(" ops ")" "->" label .
-abbrev pub call : Call → List Token → Type 0
-call c = word words.Call ⋅ One (kinds.Local 0) ⋅ mark marks.Equals ⋅ path c.callee ⋅ args c.args ⋅ ops c.operands ⋅ mark marks.Arrow ⋅ label c.target
+-- the word of an operation on two operands
+abbrev pub op_word : Op → Word
+op_word operations.Add = words.Add
+op_word operations.Sub = words.Sub
+op_word operations.Mul = words.Mul
+op_word operations.Div = words.Div
+op_word operations.Rem = words.Rem
+op_word operations.Eq = words.Eq
+op_word operations.Lt = words.Lt
 
--- end = "return" | call .
+-- rvalue = operand | "not" "(" operand ")" | op "(" operand "," operand ")" .
+abbrev pub rvalue : Rvalue → List Token → Type 0
+rvalue (rvalues.Use o) = operand o
+rvalue (rvalues.Not o) = word words.Not ⋅ mark marks.Open ⋅ operand o ⋅ mark marks.Close
+rvalue (rvalues.Binary op a b) = word (op_word op) ⋅ mark marks.Open ⋅ operand a ⋅ mark marks.Comma ⋅ operand b ⋅ mark marks.Close
+
+-- stmt = local "=" rvalue | "print" operand .
+abbrev pub statement : Statement → List Token → Type 0
+statement (statements.Set l r) = local l ⋅ mark marks.Equals ⋅ rvalue r
+statement (statements.Print o) = word words.Print ⋅ operand o
+
+-- stmt ";"
+abbrev pub ended_statement : ℕ → Statement → List Token → Type 0
+ended_statement k s = statement s ⋅ mark marks.Semicolon
+
+-- number "=>" label ","
+abbrev pub arm : ℕ → Arm → List Token → Type 0
+arm k a = One (kinds.Number a.number) ⋅ mark marks.FatArrow ⋅ label a.label ⋅ mark marks.Comma
+
+-- switch = "switch" operand "{" { number "=>" label "," } "else" "=>" label "}" .
+abbrev pub switch : Switch → List Token → Type 0
+switch s = word words.Switch ⋅ operand s.operand ⋅ mark marks.OpenBrace ⋅ each arm 0 s.arms ⋅ word words.Else ⋅ mark marks.FatArrow ⋅ label s.otherwise ⋅ mark marks.CloseBrace
+
+-- call = "call" local "=" path args "(" ops ")" "->" label .
+abbrev pub call : Call → List Token → Type 0
+call c = word words.Call ⋅ local c.place ⋅ mark marks.Equals ⋅ path c.callee ⋅ args c.args ⋅ ops c.operands ⋅ mark marks.Arrow ⋅ label c.target
+
+-- end = "return" | "unreachable" | "goto" label | switch | call .
 abbrev pub end : End → List Token → Type 0
 end ends.Return = word words.Return
+end ends.Unreachable = word words.Unreachable
+end (ends.Goto l) = word words.Goto ⋅ label l
+end (ends.Switch s) = switch s
 end (ends.Call c) = call c
 
--- block = label ":" "{" end "}" . The k-th block has the label bb k.
+-- block = label ":" "{" { stmt ";" } end "}" . The k-th block has the label bb k.
 abbrev pub block : ℕ → Block → List Token → Type 0
-block k b = One (kinds.Label k) ⋅ mark marks.Colon ⋅ mark marks.OpenBrace ⋅ end b.end ⋅ mark marks.CloseBrace
+block k b = One (kinds.Label k) ⋅ mark marks.Colon ⋅ mark marks.OpenBrace ⋅ each ended_statement 0 b.statements ⋅ end b.end ⋅ mark marks.CloseBrace
 
--- body = "{" block { block } "}" .
-abbrev pub body : List Block → List Token → Type 0
-body blocks = mark marks.OpenBrace ⋅ some block 0 blocks ⋅ mark marks.CloseBrace
+-- "let" local ":" ty ";" . The k-th, from 0, has the local with the number 1 + k + the number of parameters.
+abbrev pub declared_local : ℕ → ℕ → written.«Type» → List Token → Type 0
+declared_local params k t = word words.Let ⋅ One (kinds.Local (1 + (params + k))) ⋅ mark marks.Colon ⋅ ty t ⋅ mark marks.Semicolon
+
+-- body = "{" { "let" local ":" ty ";" } block { block } "}" . It is that of a function with so many parameters.
+abbrev pub body : ℕ → List written.«Type» × List Block → List Token → Type 0
+body params b = mark marks.OpenBrace ⋅ each (declared_local params) 0 b.0 ⋅ some block 0 b.1 ⋅ mark marks.CloseBrace
 
 -- params = [ "<" name { "," name } ">" ] .
 abbrev pub type_params : List Name → List Token → Type 0
@@ -146,9 +198,24 @@ abbrev pub result : written.«Type» → List Token → Type 0
 result t = mark marks.Arrow ⋅ ty t
 
 -- fn = [ "pub" ] "fn" name params "(" tys ")" [ "->" ty ] body .
-abbrev pub function : ℕ → Function → List Token → Type 0
-function k f = from f.at (optional (word words.Pub) f.is_pub ⋅ word words.Fn ⋅ name f.name ⋅ type_params f.type_params ⋅ params f.params ⋅ maybe result f.result ⋅ body f.blocks)
+abbrev pub function : Name → Function → List Token → Type 0
+function n f = optional (word words.Pub) f.is_pub ⋅ word words.Fn ⋅ name n ⋅ type_params f.type_params ⋅ params f.params ⋅ maybe result f.result ⋅ body (length f.params) (f.lets, f.blocks)
 
--- text = "crate" name ";" { fn } .
+-- what stands behind the place of an item
+abbrev pub form : (Name → List items.Item → List Token → Type 0) → Name → Form → List items.Item → List Token → Type 0
+form modules n forms.Module is ts = modules n is ts
+form modules n (forms.Function f) [] ts = function n f ts
+form modules n (forms.Function f) (i ∷ is) ts = ⊥
+
+-- item = mod | fn . Modules, with their names and what stands in them, are spelled as is said.
+abbrev pub item : (Name → List items.Item → List Token → Type 0) → ℕ → items.Item → List Token → Type 0
+item modules k i = from (out-Item i).at (form modules (out-Item i).name (out-Item i).form (out-Item i).items)
+
+-- mod = "mod" name "{" { item } "}" . Modules nest no deeper than so many levels.
+unfoldable pub module_within : ℕ → Name → List items.Item → List Token → Type 0
+module_within zero n is ts = ⊥
+module_within (suc levels) n is ts = (word words.Mod ⋅ name n ⋅ mark marks.OpenBrace ⋅ each (item (module_within levels)) 0 is ⋅ mark marks.CloseBrace) ts
+
+-- text = "crate" name ";" { item } . Modules nest at most 64 deep.
 abbrev pub text : Crate → List Token → Type 0
-text c = from c.at (word words.Crate ⋅ named c.name ⋅ mark marks.Semicolon ⋅ each function 0 c.functions)
+text c = from c.at (word words.Crate ⋅ named c.name ⋅ mark marks.Semicolon ⋅ each (item (module_within 64)) 0 c.items)

@@ -1,5 +1,5 @@
 -- Reading each part of a tree from the front of a list of tokens.
-use Rattle.std.specs.Prelude.{ℕ, zero, suc, eqb, ltb, Bool, true, false, cond, ◌||◌, List, [], ◌∷◌, length, Option, Some, None, Result, Ok, Err}
+use Rattle.std.specs.Prelude.{ℕ, zero, suc, ◌+◌, eqb, ltb, Bool, true, false, cond, ◌||◌, List, [], ◌∷◌, length, Option, Some, None, Result, Ok, Err}
 use Rattle.mm_tool.specs.declared.lex.token.Place.{Place}
 use Rattle.mm_tool.specs.declared.lex.token.Token.{Token}
 use Rattle.mm_tool.specs.declared.lex.token.TokenKind.{TokenKind}
@@ -9,6 +9,10 @@ use Rattle.mm_tool.specs.declared.lex.word.Word.TheVariants as words
 use Rattle.mm_tool.specs.declared.lex.mark.Mark.{Mark}
 use Rattle.mm_tool.specs.declared.lex.mark.Mark.TheVariants as marks
 use Rattle.mm_tool.specs.declared.ast.Crate.{Crate}
+use Rattle.mm_tool.specs.declared.ast.Item as items
+use Rattle.mm_tool.specs.declared.ast.Item.TheViews.{roll-Item}
+use Rattle.mm_tool.specs.declared.ast.Form.{Form}
+use Rattle.mm_tool.specs.declared.ast.Form.TheVariants as forms
 use Rattle.mm_tool.specs.declared.ast.Function.{Function}
 use Rattle.mm_tool.specs.declared.ast.Name.{Name}
 use Rattle.mm_tool.specs.declared.ast.Type as written
@@ -16,8 +20,16 @@ use Rattle.mm_tool.specs.declared.ast.Type.TheViews.{roll-Type}
 use Rattle.mm_tool.specs.declared.ast.Head.{Head}
 use Rattle.mm_tool.specs.declared.ast.Head.TheVariants as heads
 use Rattle.mm_tool.specs.declared.ast.Block.{Block}
+use Rattle.mm_tool.specs.declared.ast.Statement.{Statement}
+use Rattle.mm_tool.specs.declared.ast.Statement.TheVariants as statements
+use Rattle.mm_tool.specs.declared.ast.Rvalue.{Rvalue}
+use Rattle.mm_tool.specs.declared.ast.Rvalue.TheVariants as rvalues
+use Rattle.mm_tool.specs.declared.ast.Op.{Op}
+use Rattle.mm_tool.specs.declared.ast.Op.TheVariants as operations
 use Rattle.mm_tool.specs.declared.ast.End.{End}
 use Rattle.mm_tool.specs.declared.ast.End.TheVariants as ends
+use Rattle.mm_tool.specs.declared.ast.Switch.{Switch}
+use Rattle.mm_tool.specs.declared.ast.Arm.{Arm}
 use Rattle.mm_tool.specs.declared.ast.Call.{Call}
 use Rattle.mm_tool.specs.declared.ast.Path.{Path}
 use Rattle.mm_tool.specs.declared.ast.Local.{Local}
@@ -54,6 +66,14 @@ is_label n _ = false
 abbrev pub is_any_label : TokenKind → Bool
 is_any_label (kinds.Label k) = true
 is_any_label _ = false
+
+abbrev pub is_any_local : TokenKind → Bool
+is_any_local (kinds.Local k) = true
+is_any_local _ = false
+
+abbrev pub is_number : TokenKind → Bool
+is_number (kinds.Number k) = true
+is_number _ = false
 
 -- whether the next token is of such a kind
 abbrev pub starts : (TokenKind → Bool) → List Token → Bool
@@ -289,41 +309,147 @@ some_operands_in ts = operand_in ts >>= λ first. more_operands_in first.0 first
 unfoldable pub ops_in : List Token → Read (List Operand)
 ops_in ts = parens_in some_operands_in ts
 
--- bodies
+-- statements
+
+abbrev pub starts_operand : List Token → Bool
+starts_operand ts = starts (is_word words.Copy) ts || starts (is_word words.Move) ts || starts (is_word words.True) ts || starts (is_word words.False) ts || starts is_number ts
+
+unfoldable pub op_of_in : Word → Op → List Token → Read Op
+op_of_in w op ts = past (is_word w) ts >>= λ rest. Ok (op, rest)
+
+unfoldable pub op_in : List Token → Read Op
+op_in ts =
+    cond (starts (is_word words.Add) ts) (op_of_in words.Add operations.Add ts) (
+    cond (starts (is_word words.Sub) ts) (op_of_in words.Sub operations.Sub ts) (
+    cond (starts (is_word words.Mul) ts) (op_of_in words.Mul operations.Mul ts) (
+    cond (starts (is_word words.Div) ts) (op_of_in words.Div operations.Div ts) (
+    cond (starts (is_word words.Rem) ts) (op_of_in words.Rem operations.Rem ts) (
+    cond (starts (is_word words.Eq) ts) (op_of_in words.Eq operations.Eq ts) (
+    op_of_in words.Lt operations.Lt ts))))))
+
+unfoldable pub negated_in : List Token → Read Operand
+negated_in ts = do
+  word ← past (is_word words.Not) ts
+  open' ← past (is_mark marks.Open) word
+  operand ← operand_in open'
+  close ← past (is_mark marks.Close) operand.1
+  Ok (operand.0, close)
+
+abbrev pub Parts : Type 0
+Parts = Op × Operand × Operand
+
+abbrev pub binary : Parts → Rvalue
+binary p = rvalues.Binary p.0 p.1 p.2
+
+unfoldable pub binary_in : List Token → Read Parts
+binary_in ts = do
+  op ← op_in ts
+  open' ← past (is_mark marks.Open) op.1
+  left ← operand_in open'
+  comma ← past (is_mark marks.Comma) left.1
+  right ← operand_in comma
+  close ← past (is_mark marks.Close) right.1
+  Ok ((op.0, left.0, right.0), close)
+
+unfoldable pub rvalue_in : List Token → Read Rvalue
+rvalue_in ts =
+    cond (starts_operand ts) (made_in rvalues.Use operand_in ts) (
+    cond (starts (is_word words.Not) ts) (made_in rvalues.Not negated_in ts) (
+    made_in binary binary_in ts))
+
+abbrev pub set : Local × Rvalue → Statement
+set p = statements.Set p.0 p.1
+
+unfoldable pub set_in : List Token → Read (Local × Rvalue)
+set_in ts = do
+  l ← local_in ts
+  equals ← past (is_mark marks.Equals) l.1
+  r ← rvalue_in equals
+  Ok ((l.0, r.0), r.1)
+
+unfoldable pub printed_in : List Token → Read Operand
+printed_in ts = past (is_word words.Print) ts >>= operand_in
+
+unfoldable pub statement_in : List Token → Read Statement
+statement_in ts = cond (starts (is_word words.Print) ts) (made_in statements.Print printed_in ts) (made_in set set_in ts)
+
+unfoldable pub ended_statement_in : ℕ → List Token → Read Statement
+ended_statement_in k ts = do
+  s ← statement_in ts
+  semicolon ← past (is_mark marks.Semicolon) s.1
+  Ok (s.0, semicolon)
+
+abbrev pub starts_statement : List Token → Bool
+starts_statement ts = starts (is_word words.Print) ts || starts is_any_local ts
+
+unfoldable pub statements_in : List Token → Read (List Statement)
+statements_in ts = each_in starts_statement ended_statement_in (length ts) 0 ts
+
+-- ends
 
 unfoldable pub call_in : List Token → Read Call
 call_in ts = do
   call ← past (is_word words.Call) ts
-  place ← past (is_local 0) call
-  equals ← past (is_mark marks.Equals) place
+  place ← local_in call
+  equals ← past (is_mark marks.Equals) place.1
   callee ← path_in equals
   args ← args_in callee.1
   ops ← ops_in args.1
   arrow ← past (is_mark marks.Arrow) ops.1
   target ← label_in arrow
-  Ok (record { callee = callee.0; args = args.0; operands = ops.0; target = target.0 }, target.1)
+  Ok (record { place = place.0; callee = callee.0; args = args.0; operands = ops.0; target = target.0 }, target.1)
 
-unfoldable pub return_in : List Token → Read End
-return_in ts = do
-  rest ← past (is_word words.Return) ts
-  Ok (ends.Return, rest)
+unfoldable pub arm_in : ℕ → List Token → Read Arm
+arm_in k ts = do
+  number ← value_in number_of ts
+  arrow ← past (is_mark marks.FatArrow) number.1
+  label ← label_in arrow
+  comma ← past (is_mark marks.Comma) label.1
+  Ok (record { number = number.0; label = label.0 }, comma)
 
-unfoldable pub call_end_in : List Token → Read End
-call_end_in ts = do
-  call ← call_in ts
-  Ok (ends.Call call.0, call.1)
+abbrev pub starts_arm : List Token → Bool
+starts_arm ts = starts is_number ts
+
+unfoldable pub arms_in : List Token → Read (List Arm)
+arms_in ts = each_in starts_arm arm_in (length ts) 0 ts
+
+unfoldable pub switch_in : List Token → Read Switch
+switch_in ts = do
+  switch ← past (is_word words.Switch) ts
+  operand ← operand_in switch
+  open' ← past (is_mark marks.OpenBrace) operand.1
+  arms ← arms_in open'
+  else' ← past (is_word words.Else) arms.1
+  arrow ← past (is_mark marks.FatArrow) else'
+  otherwise ← label_in arrow
+  close ← past (is_mark marks.CloseBrace) otherwise.1
+  Ok (record { operand = operand.0; arms = arms.0; otherwise = otherwise.0 }, close)
+
+unfoldable pub target_label_in : List Token → Read Label
+target_label_in ts = past (is_word words.Goto) ts >>= label_in
+
+unfoldable pub bare_end_in : Word → End → List Token → Read End
+bare_end_in w e ts = past (is_word w) ts >>= λ rest. Ok (e, rest)
 
 unfoldable pub end_in : List Token → Read End
-end_in ts = cond (starts (is_word words.Return) ts) (return_in ts) (call_end_in ts)
+end_in ts =
+    cond (starts (is_word words.Return) ts) (bare_end_in words.Return ends.Return ts) (
+    cond (starts (is_word words.Unreachable) ts) (bare_end_in words.Unreachable ends.Unreachable ts) (
+    cond (starts (is_word words.Goto) ts) (made_in ends.Goto target_label_in ts) (
+    cond (starts (is_word words.Switch) ts) (made_in ends.Switch switch_in ts) (
+    made_in ends.Call call_in ts))))
+
+-- bodies
 
 unfoldable pub block_in : ℕ → List Token → Read Block
 block_in k ts = do
   label ← past (is_label k) ts
   colon ← past (is_mark marks.Colon) label
   open' ← past (is_mark marks.OpenBrace) colon
-  end ← end_in open'
+  statements ← statements_in open'
+  end ← end_in statements.1
   close ← past (is_mark marks.CloseBrace) end.1
-  Ok (record { end = end.0 }, close)
+  Ok (record { statements = statements.0; end = end.0 }, close)
 
 abbrev pub starts_block : List Token → Bool
 starts_block ts = starts is_any_label ts
@@ -336,12 +462,31 @@ some_blocks_in ts = do
   blocks ← blocks_in ts
   at_least_one blocks.0 blocks.1
 
-unfoldable pub body_in : List Token → Read (List Block)
-body_in ts = do
+-- the type of the k-th local that is declared behind so many parameters
+unfoldable pub declared_local_in : ℕ → ℕ → List Token → Read written.«Type»
+declared_local_in params k ts = do
+  word ← past (is_word words.Let) ts
+  local ← past (is_local (1 + (params + k))) word
+  colon ← past (is_mark marks.Colon) local
+  t ← ty_in colon
+  semicolon ← past (is_mark marks.Semicolon) t.1
+  Ok (t.0, semicolon)
+
+abbrev pub starts_let : List Token → Bool
+starts_let ts = starts (is_word words.Let) ts
+
+unfoldable pub lets_in : ℕ → List Token → Read (List written.«Type»)
+lets_in params ts = each_in starts_let (declared_local_in params) (length ts) 0 ts
+
+unfoldable pub body_in : ℕ → List Token → Read (List written.«Type» × List Block)
+body_in params ts = do
   open' ← past (is_mark marks.OpenBrace) ts
-  blocks ← some_blocks_in open'
+  lets ← lets_in params open'
+  blocks ← some_blocks_in lets.1
   close ← past (is_mark marks.CloseBrace) blocks.1
-  Ok (blocks.0, close)
+  Ok ((lets.0, blocks.0), close)
+
+-- items
 
 unfoldable pub public_in : List Token → Read Bool
 public_in ts = cond (starts (is_word words.Pub) ts) (past (is_word words.Pub) ts >>= λ rest. Ok (true, rest)) (Ok (false, ts))
@@ -365,23 +510,62 @@ written_result_in ts = past (is_mark marks.Arrow) ts >>= ty_in
 unfoldable pub result_in : List Token → Read (Option written.«Type»)
 result_in ts = maybe_in (starts (is_mark marks.Arrow)) written_result_in ts
 
-unfoldable pub function_in : ℕ → List Token → Read Function
-function_in k ts = do
-  at ← place_in ts
+unfoldable pub function_in : List Token → Read (Name × Function)
+function_in ts = do
   is_pub ← public_in ts
   fn ← past (is_word words.Fn) is_pub.1
   name ← name_in fn
   type_params ← type_params_in name.1
   params ← params_in type_params.1
   result ← result_in params.1
-  blocks ← body_in result.1
-  Ok (record { at = at; is_pub = is_pub.0; name = name.0; type_params = type_params.0; params = params.0; result = result.0; blocks = blocks.0 }, blocks.1)
+  body ← body_in (length params.0) result.1
+  Ok ((name.0, record { is_pub = is_pub.0; type_params = type_params.0; params = params.0; result = result.0; lets = body.0.0; blocks = body.0.1 }), body.1)
 
-abbrev pub starts_function : List Token → Bool
-starts_function ts = starts (is_word words.Pub) ts || starts (is_word words.Fn) ts
+-- what stands behind the place of an item
 
-unfoldable pub functions_in : List Token → Read (List Function)
-functions_in ts = each_in starts_function function_in (length ts) 0 ts
+abbrev pub Module : Type 0
+Module = Name × List items.Item
+
+abbrev pub Entry : Type 0
+Entry = Name × Form × List items.Item
+
+abbrev pub of_module : Module → Entry
+of_module m = (m.0, forms.Module, m.1)
+
+abbrev pub of_function : Name × Function → Entry
+of_function f = (f.0, forms.Function f.1, [])
+
+unfoldable pub entry_in : (List Token → Read Module) → List Token → Read Entry
+entry_in modules ts = cond (starts (is_word words.Mod) ts) (made_in of_module modules ts) (made_in of_function function_in ts)
+
+unfoldable pub item_in : (List Token → Read Module) → ℕ → List Token → Read items.Item
+item_in modules k ts = do
+  at ← place_in ts
+  entry ← entry_in modules ts
+  Ok (roll-Item (record { at = at; name = entry.0.0; form = entry.0.1; items = entry.0.2 }), entry.1)
+
+abbrev pub starts_item : List Token → Bool
+starts_item ts = starts (is_word words.Mod) ts || starts (is_word words.Pub) ts || starts (is_word words.Fn) ts
+
+unfoldable pub items_in : (List Token → Read Module) → List Token → Read (List items.Item)
+items_in modules ts = each_in starts_item (item_in modules) (length ts) 0 ts
+
+unfoldable pub module_in : (List Token → Read Module) → List Token → Read Module
+module_in modules ts = do
+  word ← past (is_word words.Mod) ts
+  name ← name_in word
+  open' ← past (is_mark marks.OpenBrace) name.1
+  items ← items_in modules open'
+  close ← past (is_mark marks.CloseBrace) items.1
+  Ok ((name.0, items.0), close)
+
+-- a module that nests no deeper than so many levels
+unfoldable pub module_within_in : ℕ → List Token → Read Module
+module_within_in zero ts = Err ts
+module_within_in (suc n) ts = module_in (module_within_in n) ts
+
+unfoldable pub all_items_in : List Token → Read (List items.Item)
+all_items_in ts = items_in (module_within_in 64) ts
 
 unfoldable pub crate_in : List Token → Read Crate
 crate_in ts = do
@@ -389,8 +573,8 @@ crate_in ts = do
   word ← past (is_word words.Crate) ts
   name ← value_in text_of word
   semicolon ← past (is_mark marks.Semicolon) name.1
-  functions ← functions_in semicolon
-  Ok (record { at = at; name = name.0; functions = functions.0 }, functions.1)
+  items ← all_items_in semicolon
+  Ok (record { at = at; name = name.0; items = items.0 }, items.1)
 
 -- the tree of all of the tokens
 unfoldable pub text_in : List Token → Result Crate (List Token)

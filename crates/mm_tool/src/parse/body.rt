@@ -1,52 +1,17 @@
 ghost use Rattle.mm_tool.specs.Given.{Gives};
-ghost use Rattle.mm_tool.specs.Parsing.{call_in, return_in, call_end_in, end_in, block_in, blocks_in, some_blocks_in, body_in};
+ghost use Rattle.mm_tool.specs.Parsing.{block_in, blocks_in, some_blocks_in, declared_local_in, lets_in, body_in};
 
-use crate::ast::{Block, Call, End};
+use crate::ast::{Block, Type};
 use crate::lex::{Mark, Token, Word};
-use crate::parse::names::path;
-use crate::parse::operands::operands;
+use crate::parse::ends::end;
 use crate::parse::pieces::{
-    label, past_label, past_local, past_mark, past_word, starts_label, starts_word,
+    past_label, past_local_behind, past_mark, past_word, starts_label, starts_word,
 };
-use crate::parse::types::args;
+use crate::parse::statements::statements;
+use crate::parse::types::ty;
 use crate::text_error::TextError;
 use sqlite_items::Items;
 use std::alloc::Global;
-
-#[tactic(auto, unfolding(crate::specs::Parsing::call_in))]
-fn call(alloc: Global, tokens: &[Token]) -> Result<(Call, &[Token]), TextError>
-    ensures { Gives (λ x. (x.0, x.1.now)) result (call_in tokens.now) }
-{
-    let rest = past_word(Word::Call, tokens)?;
-    let rest = past_local(0, rest)?;
-    let rest = past_mark(Mark::Equals, rest)?;
-    let (callee, rest) = path(alloc, rest)?;
-    let (args, rest) = args(alloc, rest)?;
-    let (operands, rest) = operands(alloc, rest)?;
-    let rest = past_mark(Mark::Arrow, rest)?;
-    let (target, rest) = label(rest)?;
-    Ok((
-        Call {
-            callee,
-            args,
-            operands,
-            target,
-        },
-        rest,
-    ))
-}
-
-#[tactic(auto, unfolding(crate::specs::Parsing::end_in, crate::specs::Parsing::return_in, crate::specs::Parsing::call_end_in))]
-fn end(alloc: Global, tokens: &[Token]) -> Result<(End, &[Token]), TextError>
-    ensures { Gives (λ x. (x.0, x.1.now)) result (end_in tokens.now) }
-{
-    if starts_word(Word::Return, tokens) {
-        let rest = past_word(Word::Return, tokens)?;
-        return Ok((End::Return, rest));
-    }
-    let (call, rest) = call(alloc, tokens)?;
-    Ok((End::Call(call), rest))
-}
 
 #[tactic(auto, unfolding(crate::specs::Parsing::block_in))]
 fn block(alloc: Global, tokens: &[Token], place: usize) -> Result<(Block, &[Token]), TextError>
@@ -55,9 +20,10 @@ fn block(alloc: Global, tokens: &[Token], place: usize) -> Result<(Block, &[Toke
     let rest = past_label(place, tokens)?;
     let rest = past_mark(Mark::Colon, rest)?;
     let rest = past_mark(Mark::OpenBrace, rest)?;
+    let (statements, rest) = statements(alloc, rest)?;
     let (end, rest) = end(alloc, rest)?;
     let rest = past_mark(Mark::CloseBrace, rest)?;
-    Ok((Block { end }, rest))
+    Ok((Block { statements, end }, rest))
 }
 
 #[tactic(auto, unfolding(crate::specs::Parsing::blocks_in))]
@@ -88,13 +54,53 @@ fn some_blocks(alloc: Global, tokens: &[Token]) -> Result<(Items<Block>, &[Token
     Ok((blocks, rest))
 }
 
-/// The blocks of a body in braces.
+/// The type of the local that is declared so many places behind the last parameter.
+#[tactic(auto, unfolding(crate::specs::Parsing::declared_local_in))]
+fn declared_local(
+    alloc: Global,
+    params: usize,
+    tokens: &[Token],
+    place: usize,
+) -> Result<(Type, &[Token]), TextError>
+    ensures { Gives (λ x. (x.0, x.1.now)) result (declared_local_in params place tokens.now) }
+{
+    let rest = past_word(Word::Let, tokens)?;
+    let rest = past_local_behind(params, place, rest)?;
+    let rest = past_mark(Mark::Colon, rest)?;
+    let (ty, rest) = ty(alloc, rest)?;
+    let rest = past_mark(Mark::Semicolon, rest)?;
+    Ok((ty, rest))
+}
+
+#[tactic(auto, unfolding(crate::specs::Parsing::lets_in))]
+fn lets(alloc: Global, params: usize, tokens: &[Token]) -> Result<(Items<Type>, &[Token]), TextError>
+    ensures { Gives (λ x. (x.0, x.1.now)) result (lets_in params tokens.now) }
+{
+    let mut types = Items::new(alloc);
+    let mut rest = tokens;
+    'each: for place in 0..tokens.len() {
+        if !starts_word(Word::Let, rest) {
+            break;
+        }
+        let (ty, after) = declared_local(alloc, params, rest, place)?;
+        types.push(ty)?;
+        rest = after;
+    }
+    Ok((types, rest))
+}
+
+/// The types of the locals behind the parameters, and the blocks.
 #[tactic(auto, unfolding(crate::specs::Parsing::body_in))]
-pub fn body(alloc: Global, tokens: &[Token]) -> Result<(Items<Block>, &[Token]), TextError>
-    ensures { Gives (λ x. (x.0, x.1.now)) result (body_in tokens.now) }
+pub fn body(
+    alloc: Global,
+    params: usize,
+    tokens: &[Token],
+) -> Result<((Items<Type>, Items<Block>), &[Token]), TextError>
+    ensures { Gives (λ x. (x.0, x.1.now)) result (body_in params tokens.now) }
 {
     let rest = past_mark(Mark::OpenBrace, tokens)?;
+    let (lets, rest) = lets(alloc, params, rest)?;
     let (blocks, rest) = some_blocks(alloc, rest)?;
     let rest = past_mark(Mark::CloseBrace, rest)?;
-    Ok((blocks, rest))
+    Ok(((lets, blocks), rest))
 }

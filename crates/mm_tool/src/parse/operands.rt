@@ -1,9 +1,12 @@
+ghost use Rattle.std.specs.Prelude.{◌≡◌};
 ghost use Rattle.mm_tool.specs.Given.{Gives};
-ghost use Rattle.mm_tool.specs.Parsing.{used_in, operand_in, next_operand_in, more_operands_in, some_operands_in, ops_in};
+ghost use Rattle.mm_tool.specs.Parsing.{used_in, starts_operand, operand_in, next_operand_in, more_operands_in, some_operands_in, ops_in};
 
 use crate::ast::{Local, Operand};
 use crate::lex::{Mark, Token, Word};
-use crate::parse::pieces::{local, number, past_mark, past_word, single, starts_mark, starts_word};
+use crate::parse::pieces::{
+    local, number, past_mark, past_word, single, starts_mark, starts_number, starts_word,
+};
 use crate::text_error::TextError;
 use sqlite_items::Items;
 use std::alloc::Global;
@@ -17,8 +20,19 @@ fn used(word: Word, tokens: &[Token]) -> Result<(Local, &[Token]), TextError>
     local(rest)
 }
 
+/// Whether the next token begins an operand.
+pub fn starts_operand(tokens: &[Token]) -> bool
+    ensures { result ≡ starts_operand tokens.now }
+{
+    starts_word(Word::Copy, tokens)
+        || starts_word(Word::Move, tokens)
+        || starts_word(Word::True, tokens)
+        || starts_word(Word::False, tokens)
+        || starts_number(tokens)
+}
+
 #[tactic(auto, unfolding(crate::specs::Parsing::operand_in))]
-fn operand(tokens: &[Token]) -> Result<(Operand, &[Token]), TextError>
+pub fn operand(tokens: &[Token]) -> Result<(Operand, &[Token]), TextError>
     ensures { Gives (λ x. (x.0, x.1.now)) result (operand_in tokens.now) }
 {
     if starts_word(Word::Copy, tokens) {

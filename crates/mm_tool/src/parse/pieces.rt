@@ -1,7 +1,7 @@
-ghost use Rattle.std.specs.Prelude.{◌≡◌, [], ◌∷◌, MatchOption, IfOk, eqb};
+ghost use Rattle.std.specs.Prelude.{◌≡◌, ◌+◌, [], ◌∷◌, MatchOption, IfOk, eqb};
 ghost use Rattle.mm_tool.specs.Codes.{word_code};
 ghost use Rattle.mm_tool.specs.Given.{Gives};
-ghost use Rattle.mm_tool.specs.Parsing.{is_word, is_mark, is_local, is_label, is_any_label, starts, past, place_in, value_in, text_of, local_of, label_of, number_of, name_in, local_in, label_in};
+ghost use Rattle.mm_tool.specs.Parsing.{is_word, is_mark, is_local, is_label, is_any_label, is_any_local, is_number, starts, past, place_in, value_in, text_of, local_of, label_of, number_of, name_in, local_in, label_in};
 
 use crate::ast::{Label, Local, Name};
 use crate::lex::{Mark, Place, Token, TokenKind, Word};
@@ -23,6 +23,13 @@ fn same_word(found: Word, word: Word) -> bool
     found == word
 }
 
+/// Whether the number is `1 + params + place`.
+fn stands_behind(number: usize, params: usize, place: usize) -> bool
+    ensures { result ≡ eqb number (1 + (params + place)) }
+{
+    params < number && number - params - 1 == place
+}
+
 impl TokenKind {
     fn is_word(&self, word: Word) -> bool
         ensures { result ≡ is_word word self.now }
@@ -42,11 +49,12 @@ impl TokenKind {
         }
     }
 
-    fn is_local(&self, number: u32) -> bool
-        ensures { result ≡ is_local number self.now }
+    /// Whether it is the local that stands so many places behind the last parameter.
+    fn is_local_behind(&self, params: usize, place: usize) -> bool
+        ensures { result ≡ is_local (1 + (params + place)) self.now }
     {
         match self {
-            TokenKind::Local(found) => *found == number,
+            TokenKind::Local(found) => stands_behind(*found as usize, params, place),
             _ => false,
         }
     }
@@ -64,6 +72,18 @@ impl TokenKind {
         ensures { result ≡ is_any_label self.now }
     {
         matches!(self, TokenKind::Label(_))
+    }
+
+    fn is_any_local(&self) -> bool
+        ensures { result ≡ is_any_local self.now }
+    {
+        matches!(self, TokenKind::Local(_))
+    }
+
+    fn is_number(&self) -> bool
+        ensures { result ≡ is_number self.now }
+    {
+        matches!(self, TokenKind::Number(_))
     }
 }
 
@@ -94,6 +114,24 @@ pub fn starts_label(tokens: &[Token]) -> bool
     }
 }
 
+pub fn starts_local(tokens: &[Token]) -> bool
+    ensures { result ≡ starts is_any_local tokens.now }
+{
+    match next(tokens) {
+        Some((token, _)) => token.kind.is_any_local(),
+        None => false,
+    }
+}
+
+pub fn starts_number(tokens: &[Token]) -> bool
+    ensures { result ≡ starts is_number tokens.now }
+{
+    match next(tokens) {
+        Some((token, _)) => token.kind.is_number(),
+        None => false,
+    }
+}
+
 pub fn past_word(word: Word, tokens: &[Token]) -> Result<&[Token], TextError>
     ensures { Gives (λ rest. rest.now) result (past (is_word word) tokens.now) }
 {
@@ -112,11 +150,12 @@ pub fn past_mark(mark: Mark, tokens: &[Token]) -> Result<&[Token], TextError>
     }
 }
 
-pub fn past_local(number: u32, tokens: &[Token]) -> Result<&[Token], TextError>
-    ensures { Gives (λ rest. rest.now) result (past (is_local number) tokens.now) }
+/// Past the local that stands so many places behind the last parameter.
+pub fn past_local_behind(params: usize, place: usize, tokens: &[Token]) -> Result<&[Token], TextError>
+    ensures { Gives (λ rest. rest.now) result (past (is_local (1 + (params + place))) tokens.now) }
 {
     match next(tokens) {
-        Some((token, rest)) if token.kind.is_local(number) => Ok(rest),
+        Some((token, rest)) if token.kind.is_local_behind(params, place) => Ok(rest),
         _ => Err(TextError::BadText),
     }
 }

@@ -183,8 +183,9 @@ fn next_type(
     within(alloc, levels, rest)
 }
 
+/// A type.
 #[tactic(auto, unfolding(crate::specs::Parsing::ty_in))]
-fn ty(alloc: Global, tokens: &[Token]) -> Result<(Type, &[Token]), TextError>
+pub fn ty(alloc: Global, tokens: &[Token]) -> Result<(Type, &[Token]), TextError>
     ensures { Gives (λ x. (x.0, x.1.now)) result (ty_in tokens.now) }
 {
     within(alloc, NESTED_MOST, tokens)

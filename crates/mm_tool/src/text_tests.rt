@@ -7,12 +7,14 @@ use std::test::Fail;
 
 /// A function of this path. Of a definition nothing but its path is printed.
 fn function(alloc: Global, path: &[u8]) -> Result<Function, NoMemory> {
+    let mut locals = Tys::new(alloc);
+    locals.push(Ty::make(alloc, TyHead::Tuple, &[])?)?;
     Ok(Function {
         is_pub: false,
         path: Text::from_slice(alloc, path)?,
         type_params: 0,
-        params: Tys::new(alloc),
-        result: Ty::make(alloc, TyHead::Tuple, &[])?,
+        params: 0,
+        locals,
         blocks: Items::<Block>::new(alloc),
     })
 }

@@ -65,7 +65,6 @@ pub reads_ops : Reads code ops parsing.ops_in (mark_codes marks.Open) false []
 unfolding parsing.ops_in parsing.some_operands_in parsing.more_operands_in parsing.next_operand_in
 reads_ops = reads_parens (λ ts s. s) (reads_list reads_operand refl) refl refl
 
-
 -- whether the next token begins an operand
 pub begins_operand : (ts : List Token) → parsing.starts_operand ts ≡ begins_in code operand_codes ts
 begins_operand [] = refl

@@ -73,7 +73,11 @@ fn declared_local(
 }
 
 #[tactic(auto, unfolding(crate::specs::Parsing::lets_in))]
-fn lets(alloc: Global, params: usize, tokens: &[Token]) -> Result<(Items<Type>, &[Token]), TextError>
+fn lets(
+    alloc: Global,
+    params: usize,
+    tokens: &[Token],
+) -> Result<(Items<Type>, &[Token]), TextError>
     ensures { Gives (λ x. (x.0, x.1.now)) result (lets_in params tokens.now) }
 {
     let mut types = Items::new(alloc);

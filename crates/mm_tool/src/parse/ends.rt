@@ -5,7 +5,9 @@ use crate::ast::{Arm, Call, End, Label, Switch};
 use crate::lex::{Mark, Token, Word};
 use crate::parse::names::path;
 use crate::parse::operands::{operand, operands};
-use crate::parse::pieces::{label, local, number, past_mark, past_word, starts_number, starts_word};
+use crate::parse::pieces::{
+    label, local, number, past_mark, past_word, starts_number, starts_word,
+};
 use crate::parse::types::args;
 use crate::text_error::TextError;
 use sqlite_items::Items;

@@ -93,7 +93,9 @@ fn item(
 fn begins_item(tokens: &[Token]) -> bool
     ensures { result ≡ starts_item tokens.now }
 {
-    starts_word(Word::Mod, tokens) || starts_word(Word::Pub, tokens) || starts_word(Word::Fn, tokens)
+    starts_word(Word::Mod, tokens)
+        || starts_word(Word::Pub, tokens)
+        || starts_word(Word::Fn, tokens)
 }
 
 #[cycle(items)]

@@ -151,7 +151,11 @@ pub fn past_mark(mark: Mark, tokens: &[Token]) -> Result<&[Token], TextError>
 }
 
 /// Past the local that stands so many places behind the last parameter.
-pub fn past_local_behind(params: usize, place: usize, tokens: &[Token]) -> Result<&[Token], TextError>
+pub fn past_local_behind(
+    params: usize,
+    place: usize,
+    tokens: &[Token],
+) -> Result<&[Token], TextError>
     ensures { Gives (λ rest. rest.now) result (past (is_local (1 + (params + place))) tokens.now) }
 {
     match next(tokens) {

@@ -135,7 +135,10 @@ fn begins_statement(tokens: &[Token]) -> bool
 
 /// The statements of a block.
 #[tactic(auto, unfolding(crate::specs::Parsing::statements_in))]
-pub fn statements(alloc: Global, tokens: &[Token]) -> Result<(Items<Statement>, &[Token]), TextError>
+pub fn statements(
+    alloc: Global,
+    tokens: &[Token],
+) -> Result<(Items<Statement>, &[Token]), TextError>
     ensures { Gives (λ x. (x.0, x.1.now)) result (statements_in tokens.now) }
 {
     let mut statements = Items::new(alloc);

@@ -24,7 +24,7 @@ grown_one keys x = by (list_any (same_item x) keys)
     by true = ([], sym (append-nil keys))
     by false = (x ∷ [], refl)
 
-grown : (keys xs : List Item) → (more : List Item) × (insert_all same_item keys xs ≡ keys ++ more)
+pub grown : (keys xs : List Item) → (more : List Item) × (insert_all same_item keys xs ≡ keys ++ more)
 grown keys [] = ([], sym (append-nil keys))
 grown keys (x ∷ xs) =
     let one = grown_one keys x in
@@ -32,7 +32,7 @@ grown keys (x ∷ xs) =
     (one.0 ++ rest.0, rest.1 ∙ ap (λ ks. ks ++ rest.0) one.1 ∙ append_assoc keys one.0 rest.0)
 
 -- items that are inserted after others
-insert_all-append : (keys xs ys : List Item) → insert_all same_item keys (xs ++ ys) ≡ insert_all same_item (insert_all same_item keys xs) ys
+pub insert_all-append : (keys xs ys : List Item) → insert_all same_item keys (xs ++ ys) ≡ insert_all same_item (insert_all same_item keys xs) ys
 insert_all-append keys [] ys = refl
 insert_all-append keys (x ∷ xs) ys = insert_all-append (insert_key same_item keys x) xs ys
 

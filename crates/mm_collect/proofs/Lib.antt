@@ -4,3 +4,4 @@ mod NoteLemmas
 mod GrowthLemmas
 mod ClosingLemmas
 pub mod VerdictLemmas
+mod FindingLemmas

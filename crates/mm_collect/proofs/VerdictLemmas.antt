@@ -21,29 +21,29 @@ use Rattle.mm_collect.proofs.NoteLemmas.{one_note}
 
 -- ---- what the members note
 
-module _ (notes : Item → List Over) where
-  kept : (x : Item) (xs : List Item) → All (λ y. (note : Over) → Contains (notes y) note → Contains (flat_map notes xs) note) xs → All (λ y. (note : Over) → Contains (notes y) note → Contains (notes x ++ flat_map notes xs) note) xs
+module _ {N : Type 0} (notes : Item → List N) where
+  kept : (x : Item) (xs : List Item) → All (λ y. (note : N) → Contains (notes y) note → Contains (flat_map notes xs) note) xs → All (λ y. (note : N) → Contains (notes y) note → Contains (notes x ++ flat_map notes xs) note) xs
   kept x xs each =
-      All-weaker (λ y. (note : Over) → Contains (notes y) note → Contains (flat_map notes xs) note)
-      (λ y. (note : Over) → Contains (notes y) note → Contains (notes x ++ flat_map notes xs) note)
+      All-weaker (λ y. (note : N) → Contains (notes y) note → Contains (flat_map notes xs) note)
+      (λ y. (note : N) → Contains (notes y) note → Contains (notes x ++ flat_map notes xs) note)
       (λ y has note noted. Contains-append_right (notes x) (flat_map notes xs) note (has note noted)) xs each
 
-  each_in : (xs : List Item) → All (λ y. (note : Over) → Contains (notes y) note → Contains (flat_map notes xs) note) xs
-  each_in [] = All-nil (λ y. (note : Over) → Contains (notes y) note → Contains (flat_map notes []) note)
+  each_in : (xs : List Item) → All (λ y. (note : N) → Contains (notes y) note → Contains (flat_map notes xs) note) xs
+  each_in [] = All-nil (λ y. (note : N) → Contains (notes y) note → Contains (flat_map notes []) note)
   each_in (x ∷ xs) =
-      All-cons (λ y. (note : Over) → Contains (notes y) note → Contains (flat_map notes (x ∷ xs)) note) x xs
+      All-cons (λ y. (note : N) → Contains (notes y) note → Contains (flat_map notes (x ∷ xs)) note) x xs
       (λ note noted. Contains-append_left (notes x) (flat_map notes xs) note noted)
       (kept x xs (each_in xs))
 
   -- what one of the items notes is among all that they note
-  noted_in : (xs : List Item) (x : Item) (note : Over) → Contains xs x → Contains (notes x) note → Contains (flat_map notes xs) note
-  noted_in xs x note has = All-contains (λ y. (note : Over) → Contains (notes y) note → Contains (flat_map notes xs) note) xs x (each_in xs) has note
+  pub noted_in : (xs : List Item) (x : Item) (note : N) → Contains xs x → Contains (notes x) note → Contains (flat_map notes xs) note
+  noted_in xs x note has = All-contains (λ y. (note : N) → Contains (notes y) note → Contains (flat_map notes xs) note) xs x (each_in xs) has note
 
   first_in : (x : Item) (xs : List Item) → Contains (x ∷ xs) x
   first_in x xs = (0, omega arith, refl)
 
   -- and what is among all that they note, one of them notes
-  noted_by : (xs : List Item) (note : Over) → Contains (flat_map notes xs) note → (x : Item) × Contains xs x × Contains (notes x) note
+  noted_by : (xs : List Item) (note : N) → Contains (flat_map notes xs) note → (x : Item) × Contains xs x × Contains (notes x) note
   noted_by [] note has = absurd (let none = has.1 in omega arith)
   noted_by (x ∷ xs) note has =
       ⊎_elim

@@ -3,3 +3,4 @@ pub mod Candidates
 pub mod Roots
 pub mod Notes
 pub mod Verdict
+pub mod Finding

@@ -6,6 +6,7 @@ ghost use Rattle.mm_terms.specs.Same.{same_item};
 ghost use Rattle.mm_terms.specs.Closure.{AreMembers, HasMoreThan};
 ghost use Rattle.mm_collect.specs.declared.closure.Stop.TheVariants.{NoMemory};
 ghost use Rattle.mm_collect.specs.declared.over.Over.{Over};
+ghost use Rattle.mm_collect.specs.Finding.{AreInOrder};
 ghost use Rattle.mm_collect.specs.Notes.{IsLeast};
 
 use crate::over::{Over, least_over};
@@ -107,6 +108,7 @@ pub struct Closed {
 /// The members of a graph's closure, each once, in order of finding. What is found waits in that order to be scanned.
 pub fn members<G: Graph>(alloc: Global, graph: &G, limit: usize) -> Result<Closed, Stop>
     ensures members { IfOk result (λ all. AreMembers (G.roots graph.now) (G.uses graph.now) all.items) }
+    ensures order { IfOk result (λ all. AreInOrder (G.roots graph.now) (G.uses graph.now) all.items) }
     ensures within { IfOk result (λ all. length all.items ≤ limit) }
     ensures over { IfOk result (λ all. IsLeast (flat_map (G.notes graph.now) all.items) all.over) }
     ensures too_many { result ≡ Err Stop.TooMany → HasMoreThan (G.roots graph.now) (G.uses graph.now) limit }

@@ -1,4 +1,5 @@
 ghost use Rattle.std.specs.Prelude.{◌≡◌, ◌≢◌, ℕ, List, IfOk};
+ghost use Rattle.mm_collect.specs.Finding.{AreInOrder};
 ghost use Rattle.mm_collect.specs.Roots.{roots_of};
 ghost use Rattle.mm_collect.specs.Uses.{uses_of, notes_of};
 ghost use Rattle.mm_collect.specs.Verdict.{IsAccepted, IsTooLong, IsTooMany};
@@ -48,6 +49,7 @@ pub fn collect(alloc: Global, p: &Program, opts: &Opts) -> Result<ItemList, Coll
     // Each answer comes only under its own verdict. No two verdicts hold of one program (`one_verdict`), so each comes
     // exactly under its own.
     ensures accepted { IfOk result (IsAccepted p.now opts.now) }
+    ensures order { IfOk result (AreInOrder (roots_of p.now) (uses_of p.now opts.now.length)) }
     ensures too_many { (n : ℕ) → result ≡ Err (CollectFault.TooMany n) → (n ≡ opts.now.items) × IsTooMany p.now opts.now }
     ensures too_long { (path : List ℕ) (n : ℕ) → result ≡ Err (CollectFault.TypeLength path n) → IsTooLong p.now opts.now path n }
 

@@ -5,10 +5,13 @@ ghost use Rattle.std.specs.List.Sorted.{IsPermutation};
 ghost use Rattle.mm_terms.specs.declared.item.Item.{Item};
 ghost use Rattle.mm_collect.specs.declared.program.Opts.{Opts};
 ghost use Rattle.mm_collect.specs.declared.program.Program.{Program};
+ghost use Rattle.mm_collect.specs.Finding.{AreInOrder};
+ghost use Rattle.mm_collect.specs.Roots.{roots_of};
+ghost use Rattle.mm_collect.specs.Uses.{uses_of};
 ghost use Rattle.mm_collect.specs.Verdict.{IsAccepted, IsTooLong, IsTooMany};
 
 /// The verdict on a program is one: no two kinds of it hold, what is told as too long is one path with one length, and
-/// the items of an accepted program are one set.
+/// the items of an accepted program are one set, and in order of finding one list.
 pub fn one_verdict()
     ensures many_or_long { (p : Program) (opts : Opts) (path : List ℕ) (n : ℕ) → IsTooMany p opts → IsTooLong p opts path n → ⊥ }
     ensures many_or_accepted { (p : Program) (opts : Opts) (items : List Item) → IsTooMany p opts → IsAccepted p opts items → ⊥ }
@@ -18,4 +21,8 @@ pub fn one_verdict()
         IsTooLong p opts path n → IsTooLong p opts other m → (path ≡ other) × (n ≡ m) }
     ensures one_listing { (p : Program) (opts : Opts) (items others : List Item) →
         IsAccepted p opts items → IsAccepted p opts others → IsPermutation items others }
+    ensures one_order { (p : Program) (opts : Opts) (items others : List Item) →
+        IsAccepted p opts items → IsAccepted p opts others →
+        AreInOrder (roots_of p) (uses_of p opts.length) items → AreInOrder (roots_of p) (uses_of p opts.length) others →
+        items ≡ others }
 {}

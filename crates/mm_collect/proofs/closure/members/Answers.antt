@@ -6,8 +6,9 @@ use Rattle.mm_terms.specs.Closure.{AreMembers}
 use Rattle.mm_terms.specs.Same.{same_item}
 use Rattle.mm_collect.specs.declared.closure.Stop.TheVariants.{TooMany}
 use Rattle.std.specs.Prelude.{flat_map}
+use Rattle.mm_collect.specs.Finding.{AreInOrder}
 use Rattle.mm_collect.specs.Notes.{IsLeast}
-use Rattle.mm_collect.proofs.ClosingLemmas.{begun, members_first, members_still, no_shorter, scanned, whole, noted_more, noted_whole}
+use Rattle.mm_collect.proofs.ClosingLemmas.{begun, members_first, members_still, no_shorter, scanned, whole, in_order, named_more, named_whole}
 use Rattle.mm_collect.proofs.closure.members.Goals as goal
 
 pub loop-item-init : goal.loop-item-init
@@ -76,7 +77,7 @@ loop-item-preserved g c =
       c.in_ok-claim_all-2.ensures.within,
       (let more = no_shorter old c.in_ok-scan.scan.used.items new c.in_ok-claim_all-2.ensures.claimed in omega (arith, more, within)),
       subst (λ all. IsLeast all c.least_over-over.result)
-          (sym (noted_more (g.G.Graph.notes c.args.graph.now) old new c.loop-item.next item within is c.in_ok-scan.scan.used.items c.in_ok-claim_all-2.ensures.claimed))
+          (sym (named_more (g.G.Graph.notes c.args.graph.now) old new c.loop-item.next item within is c.in_ok-scan.scan.used.items c.in_ok-claim_all-2.ensures.claimed))
           (c.least_over-over.ensures (flat_map (g.G.Graph.notes c.args.graph.now) (take c.loop-item.next old)) (g.G.Graph.notes c.args.graph.now item) c.loop-item.invariant.3 c.in_ok-scan.ensures.over),
     )
 
@@ -91,5 +92,12 @@ pub returns-clause-over : goal.returns-clause-over
 returns-clause-over g c =
     let same : c.from_vec.result ≡ c.loop-item.found.keys = search rules in
     subst (λ all. IsLeast all c.loop-item.over)
-    (noted_whole (g.G.Graph.notes c.args.graph.now) c.loop-item.found.keys c.loop-item.next (search rules) ∙ ap (flat_map (g.G.Graph.notes c.args.graph.now)) (sym same))
+    (named_whole (g.G.Graph.notes c.args.graph.now) c.loop-item.found.keys c.loop-item.next (search rules) ∙ ap (flat_map (g.G.Graph.notes c.args.graph.now)) (sym same))
     c.loop-item.invariant.3
+
+pub returns-clause-order : goal.returns-clause-order
+returns-clause-order g c =
+    let roots = g.G.Graph.roots c.args.graph.now in
+    let uses = g.G.Graph.uses c.args.graph.now in
+    let same : c.from_vec.result ≡ c.loop-item.found.keys = search rules in
+    subst (AreInOrder roots uses) (sym same) (in_order roots uses c.loop-item.found.keys c.loop-item.next c.loop-item.invariant.0 (search rules))

@@ -1,3 +1,6 @@
+use Rattle.mm_collect.specs.Roots.{roots_of}
+use Rattle.mm_collect.specs.Uses.{uses_of}
+use Rattle.mm_collect.proofs.FindingLemmas.{one_list}
 use Rattle.mm_collect.proofs.VerdictLemmas.{many_or_long, many_or_accepted, long_or_accepted, one_note_told, one_listing}
 use Rattle.mm_collect.proofs.laws.one_verdict.Goals as goal
 
@@ -15,3 +18,7 @@ returns-clause-one_note c = one_note_told
 
 pub returns-clause-one_listing : goal.returns-clause-one_listing
 returns-clause-one_listing c = one_listing
+
+pub returns-clause-one_order : goal.returns-clause-one_order
+returns-clause-one_order c p opts items others first second order same =
+    one_list (roots_of p) (uses_of p opts.length) items others first.members second.members order same

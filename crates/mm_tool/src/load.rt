@@ -42,12 +42,10 @@ fn check_rules(
     functions: &[Defined<'_>],
     paths: &Index<'_>,
 ) -> Result<(), LoadError>
-    ensures {
-        map item_seen items.now ≡ items_of tree.now
+    ensures { map item_seen items.now ≡ items_of tree.now
         → map function_seen functions.now ≡ functions_of tree.now
         → leads paths.now ≡ paths_in tree.now
-        → Judges tree.now result
-    }
+        → Judges tree.now result }
 {
     unknown_name::check(alloc, paths, functions)?;
     double_name::check(alloc, items)?;

@@ -60,6 +60,7 @@ fn place_item<'a>(
 }
 
 /// All items of a crate.
+#[tactic(auto, unfolding(crate::specs::WrittenItem::items_of))]
 pub fn items<'a>(alloc: Global, tree: &'a ast::Crate) -> Result<Vec<Placed<'a>>, NoMemory>
     ensures { IfOk result (λ placed. map item_seen placed.items ≡ items_of tree.now) }
 {
@@ -71,6 +72,7 @@ pub fn items<'a>(alloc: Global, tree: &'a ast::Crate) -> Result<Vec<Placed<'a>>,
 }
 
 /// The functions among the items.
+#[tactic(auto, unfolding(crate::specs::WrittenItem::functions_among))]
 pub fn functions<'a>(alloc: Global, items: &'a [Placed<'a>]) -> Result<Vec<Defined<'a>>, NoMemory>
     ensures { IfOk result (λ functions. map function_seen functions.items ≡ functions_among (map item_seen items.now)) }
 {

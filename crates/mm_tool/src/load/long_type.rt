@@ -57,10 +57,9 @@ fn check_block(block: &ast::Block) -> Result<(), LoadError>
     ensures { Tells LongType (long_in_block block.now) result }
 {
     match &block.end {
-        ast::End::Return
-        | ast::End::Unreachable
-        | ast::End::Goto(_)
-        | ast::End::Switch(_) => Ok(()),
+        ast::End::Return | ast::End::Unreachable | ast::End::Goto(_) | ast::End::Switch(_) => Ok(
+            (),
+        ),
         ast::End::Call(call) => check_types(call.args.as_slice()),
     }
 }

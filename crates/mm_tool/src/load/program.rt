@@ -16,11 +16,7 @@ use std::alloc::Global;
 
 /// The types of the locals: the result, the parameters, and the `let` locals.
 #[tactic(auto, unfolding(crate::specs::Meaning::locals_of))]
-fn load_locals(
-    alloc: Global,
-    scope: &Index<'_>,
-    function: &ast::Function,
-) -> Result<Tys, NoMemory>
+fn load_locals(alloc: Global, scope: &Index<'_>, function: &ast::Function) -> Result<Tys, NoMemory>
     ensures { IfOk result (λ tys. tys ≡ locals_of (leads scope.now) function.now) }
 {
     let mut locals = Tys::new(alloc);

@@ -44,6 +44,7 @@ pub fn load_type(alloc: Global, scope: &Index<'_>, ty: &ast::Type) -> Result<Ty,
 }
 
 /// Adds the types that are written.
+#[tactic(auto, unfolding(crate::specs::Meaning::types_of))]
 pub fn add_types(
     alloc: Global,
     scope: &Index<'_>,

@@ -71,11 +71,7 @@ fn check_label(function: &ast::Function, label: ast::Label) -> Result<(), LoadEr
     ensures { Tells UnknownName (unknown_label function.now label) result }
 {
     let blocks = function.blocks.len();
-    fault_if(
-        label.number as usize >= blocks,
-        Rule::UnknownName,
-        label.at,
-    )
+    fault_if(label.number as usize >= blocks, Rule::UnknownName, label.at)
 }
 
 #[tactic(auto, unfolding(crate::specs::Rules::unknown_in_operand))]

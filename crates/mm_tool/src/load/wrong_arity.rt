@@ -31,7 +31,11 @@ fn check_call(
 {
     let path = path_text(alloc, &call.callee)?;
     match function_at(paths, functions, path.as_slice()) {
-        Some(callee) => fault_if(!call_fits(call, callee.function), Rule::WrongArity, call.callee.at),
+        Some(callee) => fault_if(
+            !call_fits(call, callee.function),
+            Rule::WrongArity,
+            call.callee.at,
+        ),
         None => Ok(()),
     }
 }
@@ -46,10 +50,9 @@ fn check_block(
     ensures { Tells WrongArity (misfit_block (leads paths.now) (map function_seen functions.now) block.now) result }
 {
     match &block.end {
-        ast::End::Return
-        | ast::End::Unreachable
-        | ast::End::Goto(_)
-        | ast::End::Switch(_) => Ok(()),
+        ast::End::Return | ast::End::Unreachable | ast::End::Goto(_) | ast::End::Switch(_) => Ok(
+            (),
+        ),
         ast::End::Call(call) => check_call(alloc, paths, functions, call),
     }
 }

@@ -1,5 +1,5 @@
 -- What follows of the answers of functions that ask a rule.
-use Rattle.std.proofs.Common.{◌≡◌, ℕ, ◌+◌, ◌<◌, ◌≤◌, List, [], ◌∷◌, ◌++◌, length, take, drop, get_or, Option, None, Some, Result, Ok, Err, refl, sym, ◌∙◌, ap, subst}
+use Rattle.std.proofs.Common.{◌≡◌, ℕ, ◌+◌, ◌<◌, ◌≤◌, List, [], ◌∷◌, ◌++◌, length, map, take, drop, get_or, Option, None, Some, Result, Ok, Err, refl, sym, ◌∙◌, ap, subst}
 use Rattle.std.proofs.lemmas.List.{take_more, take_all, take-append-drop, drop_more, drop_all, append-nil}
 use Rattle.std.proofs.lemmas.List.Concat.{flat_map-append}
 use Rattle.std.specs.List.{flat_map, slice_get}
@@ -69,3 +69,12 @@ module _ {A : Type 0} (f : List A → A → List Place) (xs : List A) (i : ℕ) 
 
   pub along_all : (rule : Rule) → along f [] xs ≡ along f (take i xs) (drop i xs) → length xs ≤ i → Tells rule (along f [] xs) (Ok tt)
   along_all rule so_far l = record { answer = so_far ∙ ap (along f (take i xs)) (drop_all i xs l) }
+
+flat_map-map : {A B : Type 0} (f : B → List Place) (g : A → B) (xs : List A) → flat_map f (map g xs) ≡ flat_map (λ x. f (g x)) xs
+flat_map-map f g [] = refl
+flat_map-map f g (x ∷ xs) = ap (λ ps. f (g x) ++ ps) (flat_map-map f g xs)
+
+module _ {A B : Type 0} (f : B → List Place) (g : A → B) (xs : List A) (i : ℕ) where
+  -- the same of a rule that is asked of what contracts see of the parts
+  pub fault_seen : (rule : Rule) (x : A) (e : errors.LoadError) → flat_map f (map g (take i xs)) ≡ [] → i < length xs → x ≡ get_or xs i x → Tells rule (f (g x)) (Err e) → Tells rule (flat_map f (map g xs)) (Err e)
+  fault_seen rule x e kept l at t = subst (λ ps. Tells rule ps (Err e)) (sym (flat_map-map f g xs)) (fault_more (λ y. f (g y)) xs i rule x e (sym (flat_map-map f g (take i xs)) ∙ kept) l at t)

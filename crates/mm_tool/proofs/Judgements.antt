@@ -2,17 +2,17 @@
 use Rattle.std.proofs.Common.{◌≡◌, List, [], Result, Ok, Err, sym, ◌∙◌, ap, subst}
 use Rattle.mm_tool.specs.declared.lex.token.Place.{Place}
 use Rattle.mm_tool.specs.declared.ast.Crate.{Crate}
-use Rattle.mm_tool.specs.declared.ast.Function.{Function}
 use Rattle.mm_tool.specs.declared.load.rule.Rule.{Rule}
 use Rattle.mm_tool.specs.declared.load.rule.Rule.TheVariants.{UnknownName, DoubleName, WrongArity, BadMain, LongType}
 use Rattle.mm_tool.specs.declared.load.load_error.LoadError as errors
 use Rattle.mm_tool.specs.declared.load.load_error.LoadError.TheVariants.{Rule as Broken, NoMemory}
 use Rattle.mm_tool.specs.Asking.{Tells, told, answered, Judges}
 use Rattle.mm_tool.specs.Names.{Names}
+use Rattle.mm_tool.specs.WrittenItem.{Defined}
 use Rattle.mm_tool.specs.Rules.{fails, before, Kept, KeepsRules, IsFirstFault}
 
 -- what is told by an index and a list of functions is told of what they are
-pub asked_of : (rule : Rule) (places : Names → List Function → List Place) (r : Result (Unit {0}) errors.LoadError) (by is : Names) (functions written : List Function) → by ≡ is → functions ≡ written → Tells rule (places by functions) r → Tells rule (places is written) r
+pub asked_of : (rule : Rule) (places : Names → List Defined → List Place) (r : Result (Unit {0}) errors.LoadError) (by is : Names) (functions written : List Defined) → by ≡ is → functions ≡ written → Tells rule (places by functions) r → Tells rule (places is written) r
 asked_of rule places r by is functions written same list t = subst (λ ns. Tells rule (places ns written) r) same (subst (λ fs. Tells rule (places by fs) r) list t)
 
 module _ (tree : Crate) where

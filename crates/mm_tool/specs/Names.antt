@@ -4,7 +4,6 @@ use Rattle.std.specs.Option.{option_map}
 use Rattle.std.specs.Str.{bytes_eq}
 use Rattle.indexmap.specs.IndexMap.{IndexMap, get_by}
 use denote.Ref.{Bor}
-use Rattle.mm_tool.specs.declared.ast.Crate.{Crate}
 use Rattle.mm_tool.specs.declared.ast.Function.{Function}
 use Rattle.mm_tool.specs.declared.ast.Path.{Path}
 
@@ -22,10 +21,6 @@ abbrev pub joined : List ℕ → List (List ℕ) → List ℕ
 joined front [] = front
 joined front (name ∷ names) = joined (front ++ codes "::" ++ name) names
 
--- the path of a function of the crate
-abbrev pub path_of : List ℕ → Function → List ℕ
-path_of krate f = joined krate (f.name.text ∷ [])
-
 -- the path that a call names
 abbrev pub path_named : Path → List ℕ
 path_named path = joined path.krate path.names
@@ -33,14 +28,6 @@ path_named path = joined path.krate path.names
 -- the path of the function with which a run begins
 abbrev pub main_path : List ℕ → List ℕ
 main_path krate = joined krate (codes "main" ∷ [])
-
--- the paths of the functions, in order
-abbrev pub paths_of : Crate → List (List ℕ)
-paths_of tree = map (path_of tree.name) tree.functions
-
--- to which function of the crate each path leads
-abbrev pub paths_in : Crate → Names
-paths_in tree = place_of (paths_of tree)
 
 -- to which type parameter of the function each name leads
 abbrev pub names_in : Function → Names

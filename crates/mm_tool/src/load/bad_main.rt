@@ -1,12 +1,14 @@
 //! The function with which a run begins.
-ghost use Rattle.std.specs.Prelude.{◌≡◌};
+ghost use Rattle.std.specs.Prelude.{◌≡◌, map};
 ghost use Rattle.mm_tool.specs.Asking.{Tells};
 ghost use Rattle.mm_tool.specs.Names.{leads};
+ghost use Rattle.mm_tool.specs.Seen.{function_seen};
 ghost use Rattle.mm_tool.specs.Rules.{is_bare, bad_main};
 ghost use Rattle.mm_tool.specs.declared.load.rule.Rule.TheVariants.{BadMain};
 
 use crate::ast;
-use crate::load::index::{Index, function_at, function_path};
+use crate::load::index::{Index, function_at};
+use crate::load::items::{Defined, path_in};
 use crate::load::load_error::{LoadError, fault_if};
 use crate::load::rule::Rule;
 use std::alloc::Global;
@@ -18,14 +20,19 @@ fn is_bare(function: &ast::Function) -> bool
     function.type_params.len() == 0 && function.params.len() == 0
 }
 
-/// Asks whether the crate has a function `main` without type parameters and parameters.
+/// Asks whether the crate has at its top a function `main` without type parameters and parameters.
 #[tactic(auto, unfolding(crate::specs::Rules::bad_main))]
-pub fn check(alloc: Global, paths: &Index<'_>, tree: &ast::Crate) -> Result<(), LoadError>
-    ensures { Tells BadMain (bad_main (leads paths.now) tree.now) result }
+pub fn check(
+    alloc: Global,
+    paths: &Index<'_>,
+    functions: &[Defined<'_>],
+    tree: &ast::Crate,
+) -> Result<(), LoadError>
+    ensures { Tells BadMain (bad_main (leads paths.now) (map function_seen functions.now) tree.now) result }
 {
-    let path = function_path(alloc, tree.name.as_slice(), b"main")?;
-    match function_at(paths, tree.functions.as_slice(), path.as_slice()) {
-        Some(main) => fault_if(!is_bare(main), Rule::BadMain, main.at),
+    let path = path_in(alloc, tree.name.as_slice(), b"main")?;
+    match function_at(paths, functions, path.as_slice()) {
+        Some(main) => fault_if(!is_bare(main.function), Rule::BadMain, main.at),
         None => Err(LoadError::Rule(Rule::BadMain, tree.at)),
     }
 }

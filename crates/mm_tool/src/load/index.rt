@@ -1,12 +1,15 @@
 ghost use Rattle.std.specs.Prelude.{◌≡◌, ℕ, List, [], ◌∷◌, map, cond, Some, None, IfOk, OnOk};
-ghost use Rattle.std.specs.Option.{option_copied, option_or};
+ghost use Rattle.std.specs.Option.{option_map, option_or};
 ghost use Rattle.std.specs.Str.{bytes_eq};
 ghost use Rattle.mm_tool.specs.Rules.{function_at};
-ghost use Rattle.mm_tool.specs.Names.{joined, leads, names_in, path_named, paths_of, place_of};
+ghost use Rattle.mm_tool.specs.Names.{joined, leads, names_in, path_named, place_of};
+ghost use Rattle.mm_tool.specs.Seen.{function_seen};
+ghost use Rattle.mm_tool.specs.WrittenItem.{paths_to};
 
 use crate::ast;
+use crate::load::items::Defined;
 use indexmap::IndexMap;
-use mm_terms::{NoMemory, Text};
+use mm_terms::NoMemory;
 use std::alloc::Global;
 
 /// Where names stand first in a list of names, from 0.
@@ -24,28 +27,6 @@ pub fn path_text(alloc: Global, path: &ast::Path) -> Result<Vec<u8>, NoMemory>
     Ok(text)
 }
 
-/// The path of a function of the crate, by its name.
-pub fn function_path(alloc: Global, krate: &[u8], name: &[u8]) -> Result<Text, NoMemory>
-    ensures { IfOk result (λ path. path ≡ joined krate.now (name.now ∷ [])) }
-{
-    let mut path = Vec::from_slice(alloc, krate)?;
-    path.extend_from_slice(b"::")?;
-    path.extend_from_slice(name)?;
-    Ok(Text::from_vec(path))
-}
-
-/// The paths of the functions, in order.
-pub fn paths(alloc: Global, tree: &ast::Crate) -> Result<Vec<Text>, NoMemory>
-    ensures { IfOk result (λ paths. paths.items ≡ paths_of tree.now) }
-{
-    let mut paths = Vec::new(alloc);
-    for function in tree.functions.as_slice() {
-        let name = function.name.text.as_slice();
-        paths.push(function_path(alloc, tree.name.as_slice(), name)?)?;
-    }
-    Ok(paths)
-}
-
 /// Notes that a name stands at this place, unless it stands at an earlier one.
 fn note<'a>(index: &mut Index<'a>, name: &'a [u8], place: usize) -> Result<(), NoMemory>
     ensures { OnOk result ((q : List ℕ) → leads index.new q ≡ option_or (leads index.old q) (cond (bytes_eq q name.now) (Some place) None)) }
@@ -60,13 +41,13 @@ fn note<'a>(index: &mut Index<'a>, name: &'a [u8], place: usize) -> Result<(), N
     Ok(())
 }
 
-/// The index of these paths.
-pub fn path_index(alloc: Global, paths: &[Text]) -> Result<Index<'_>, NoMemory>
-    ensures { IfOk result (λ index. leads index ≡ place_of paths.now) }
+/// The index of the paths of these functions.
+pub fn path_index<'a>(alloc: Global, functions: &[Defined<'a>]) -> Result<Index<'a>, NoMemory>
+    ensures { IfOk result (λ index. leads index ≡ paths_to (map function_seen functions.now)) }
 {
     let mut index = IndexMap::new(alloc);
-    for (place, path) in paths.iter().enumerate() {
-        note(&mut index, path.as_slice(), place)?;
+    for (place, function) in functions.iter().enumerate() {
+        note(&mut index, function.path, place)?;
     }
     Ok(index)
 }
@@ -92,11 +73,11 @@ pub fn find(index: &Index<'_>, name: &[u8]) -> Option<u32>
 /// The function to which a path leads.
 pub fn function_at<'a>(
     paths: &Index<'_>,
-    functions: &'a [ast::Function],
+    functions: &[Defined<'a>],
     path: &[u8],
-) -> Option<&'a ast::Function>
-    ensures { option_copied result ≡ function_at (leads paths.now) functions.now path.now }
+) -> Option<Defined<'a>>
+    ensures { option_map function_seen result ≡ function_at (leads paths.now) (map function_seen functions.now) path.now }
 {
     let place = find(paths, path)?;
-    functions.get(place as usize)
+    functions.get(place as usize).copied()
 }

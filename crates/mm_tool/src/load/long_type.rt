@@ -1,11 +1,13 @@
 //! Types that are too long.
 ghost use Rattle.std.specs.Option.{option_map_or, SomeIff};
-ghost use Rattle.std.specs.Prelude.{[], ◌≤◌, ◌-◌};
+ghost use Rattle.std.specs.Prelude.{[], ◌≤◌, ◌-◌, map};
 ghost use Rattle.mm_tool.specs.Asking.{Tells};
 ghost use Rattle.mm_tool.specs.Rules.{type_length, long_type, long_types, long_in_block, long_in_blocks, long_in_function, long_in_functions};
+ghost use Rattle.mm_tool.specs.Seen.{function_seen};
 ghost use Rattle.mm_tool.specs.declared.load.rule.Rule.TheVariants.{LongType};
 
 use crate::ast;
+use crate::load::items::Defined;
 use crate::load::load_error::{LoadError, fault_if};
 use crate::load::rule::Rule;
 
@@ -55,7 +57,9 @@ fn check_block(block: &ast::Block) -> Result<(), LoadError>
     ensures { Tells LongType (long_in_block block.now) result }
 {
     match &block.end {
-        ast::End::Return => Ok(()),
+        ast::End::Return | ast::End::Unreachable | ast::End::Goto(_) | ast::End::Switch(_) => Ok(
+            (),
+        ),
         ast::End::Call(call) => check_types(call.args.as_slice()),
     }
 }
@@ -76,16 +80,17 @@ fn check_function(function: &ast::Function) -> Result<(), LoadError>
 {
     check_types(function.params.as_slice())?;
     check_result(&function.result)?;
+    check_types(function.lets.as_slice())?;
     check_blocks(function.blocks.as_slice())
 }
 
 /// Asks whether each written type of these functions is short enough.
-#[tactic(auto, unfolding(crate::specs::Rules::long_in_functions), using(crate::proofs::AskingLemmas::fault_more))]
-pub fn check(functions: &[ast::Function]) -> Result<(), LoadError>
-    ensures { Tells LongType (long_in_functions functions.now) result }
+#[tactic(auto, unfolding(crate::specs::Rules::long_in_functions), using(crate::proofs::AskingLemmas::fault_seen))]
+pub fn check(functions: &[Defined<'_>]) -> Result<(), LoadError>
+    ensures { Tells LongType (long_in_functions (map function_seen functions.now)) result }
 {
     for function in functions {
-        check_function(function)?;
+        check_function(function.function)?;
     }
     Ok(())
 }

@@ -1,11 +1,11 @@
 //! The types of a program, made of those of its tree.
-ghost use Rattle.std.specs.Prelude.{◌≡◌, IfOk};
+ghost use Rattle.std.specs.Prelude.{◌≡◌, ◌++◌, IfOk, OnOk};
 ghost use Rattle.mm_tool.specs.Meaning.{place_in, head_in, type_of, types_of, result_of};
 ghost use Rattle.mm_tool.specs.Names.{leads};
 
 use crate::ast;
 use crate::load::index::{Index, find};
-use mm_terms::{NoMemory, Text, Ty, TyHead, Tys};
+use mm_terms::{NoMemory, Ty, TyHead, Tys};
 use std::alloc::Global;
 
 /// The place to which a name leads, or 0.
@@ -43,14 +43,28 @@ pub fn load_type(alloc: Global, scope: &Index<'_>, ty: &ast::Type) -> Result<Ty,
     Ty::from_children(alloc, head, children)
 }
 
+/// Adds the types that are written.
 #[tactic(auto, unfolding(crate::specs::Meaning::types_of))]
+pub fn add_types(
+    alloc: Global,
+    scope: &Index<'_>,
+    types: &[ast::Type],
+    tys: &mut Tys,
+) -> Result<(), NoMemory>
+    ensures { OnOk result (tys.new ≡ tys.old ++ types_of (leads scope.now) types.now) }
+{
+    for ty in types {
+        tys.push(load_type(alloc, scope, ty)?)?;
+    }
+    Ok(())
+}
+
+/// The types that are written.
 pub fn load_types(alloc: Global, scope: &Index<'_>, types: &[ast::Type]) -> Result<Tys, NoMemory>
     ensures { IfOk result (λ tys. tys ≡ types_of (leads scope.now) types.now) }
 {
     let mut tys = Tys::new(alloc);
-    for ty in types {
-        tys.push(load_type(alloc, scope, ty)?)?;
-    }
+    add_types(alloc, scope, types, &mut tys)?;
     Ok(tys)
 }
 
@@ -63,10 +77,4 @@ pub fn load_result(alloc: Global, scope: &Index<'_>, ty: &Option<ast::Type>) -> 
         Some(ty) => load_type(alloc, scope, ty),
         None => Ty::from_children(alloc, TyHead::Tuple, Vec::new(alloc)),
     }
-}
-
-pub fn copy(alloc: Global, text: &Text) -> Result<Text, NoMemory>
-    ensures { IfOk result (λ copy. copy ≡ text.now) }
-{
-    Text::from_slice(alloc, text.as_slice())
 }

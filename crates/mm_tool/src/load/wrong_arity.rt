@@ -1,12 +1,14 @@
 //! Calls that do not fit their callees.
-ghost use Rattle.std.specs.Prelude.{◌≡◌};
+ghost use Rattle.std.specs.Prelude.{◌≡◌, map};
 ghost use Rattle.mm_tool.specs.Asking.{Tells};
 ghost use Rattle.mm_tool.specs.Names.{leads};
+ghost use Rattle.mm_tool.specs.Seen.{function_seen};
 ghost use Rattle.mm_tool.specs.Rules.{fits, misfit_call, misfit_block, misfits_in_function, misfits_in_functions};
 ghost use Rattle.mm_tool.specs.declared.load.rule.Rule.TheVariants.{WrongArity};
 
 use crate::ast;
 use crate::load::index::{Index, function_at, path_text};
+use crate::load::items::Defined;
 use crate::load::load_error::{LoadError, fault_if};
 use crate::load::rule::Rule;
 use std::alloc::Global;
@@ -22,14 +24,18 @@ fn call_fits(call: &ast::Call, callee: &ast::Function) -> bool
 fn check_call(
     alloc: Global,
     paths: &Index<'_>,
-    functions: &[ast::Function],
+    functions: &[Defined<'_>],
     call: &ast::Call,
 ) -> Result<(), LoadError>
-    ensures { Tells WrongArity (misfit_call (leads paths.now) functions.now call.now) result }
+    ensures { Tells WrongArity (misfit_call (leads paths.now) (map function_seen functions.now) call.now) result }
 {
     let path = path_text(alloc, &call.callee)?;
     match function_at(paths, functions, path.as_slice()) {
-        Some(callee) => fault_if(!call_fits(call, callee), Rule::WrongArity, call.callee.at),
+        Some(callee) => fault_if(
+            !call_fits(call, callee.function),
+            Rule::WrongArity,
+            call.callee.at,
+        ),
         None => Ok(()),
     }
 }
@@ -38,13 +44,15 @@ fn check_call(
 fn check_block(
     alloc: Global,
     paths: &Index<'_>,
-    functions: &[ast::Function],
+    functions: &[Defined<'_>],
     block: &ast::Block,
 ) -> Result<(), LoadError>
-    ensures { Tells WrongArity (misfit_block (leads paths.now) functions.now block.now) result }
+    ensures { Tells WrongArity (misfit_block (leads paths.now) (map function_seen functions.now) block.now) result }
 {
     match &block.end {
-        ast::End::Return => Ok(()),
+        ast::End::Return | ast::End::Unreachable | ast::End::Goto(_) | ast::End::Switch(_) => Ok(
+            (),
+        ),
         ast::End::Call(call) => check_call(alloc, paths, functions, call),
     }
 }
@@ -53,10 +61,10 @@ fn check_block(
 fn check_function(
     alloc: Global,
     paths: &Index<'_>,
-    functions: &[ast::Function],
+    functions: &[Defined<'_>],
     function: &ast::Function,
 ) -> Result<(), LoadError>
-    ensures { Tells WrongArity (misfits_in_function (leads paths.now) functions.now function.now) result }
+    ensures { Tells WrongArity (misfits_in_function (leads paths.now) (map function_seen functions.now) function.now) result }
 {
     for block in function.blocks.as_slice() {
         check_block(alloc, paths, functions, block)?;
@@ -65,12 +73,12 @@ fn check_function(
 }
 
 /// Asks whether each call of these functions fits the one of them to which its path leads.
-#[tactic(auto, unfolding(crate::specs::Rules::misfits_in_functions), using(crate::proofs::AskingLemmas::fault_more))]
-pub fn check(alloc: Global, paths: &Index<'_>, functions: &[ast::Function]) -> Result<(), LoadError>
-    ensures { Tells WrongArity (misfits_in_functions (leads paths.now) functions.now) result }
+#[tactic(auto, unfolding(crate::specs::Rules::misfits_in_functions), using(crate::proofs::AskingLemmas::fault_seen))]
+pub fn check(alloc: Global, paths: &Index<'_>, functions: &[Defined<'_>]) -> Result<(), LoadError>
+    ensures { Tells WrongArity (misfits_in_functions (leads paths.now) (map function_seen functions.now)) result }
 {
     for function in functions {
-        check_function(alloc, paths, functions, function)?;
+        check_function(alloc, paths, functions, function.function)?;
     }
     Ok(())
 }

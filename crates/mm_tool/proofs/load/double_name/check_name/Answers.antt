@@ -1,4 +1,4 @@
-use Rattle.std.proofs.Common.{subst}
+use Rattle.std.proofs.Common.{refl, subst}
 use Rattle.mm_tool.specs.Asking.{Tells}
 use Rattle.mm_tool.specs.Rules.{place_if}
 use Rattle.mm_tool.specs.declared.load.rule.Rule.TheVariants.{DoubleName}
@@ -7,7 +7,6 @@ use Rattle.mm_tool.proofs.load.double_name.check_name.Goals as goal
 
 pub returns-clause-answer : goal.returns-clause-answer
 returns-clause-answer c =
-    let name = c.args.name.now in
-    subst (λ b. Tells DoubleName (place_if b name.at) c.fault_if.result)
-    (was_there (λ k. k.now) c.args.seen.now.keys c.as_slice.result.now name.text c.in_ok-is_new.is_new c.in_ok-is_new.ensures.added c.as_slice.ensures)
+    subst (λ b. Tells DoubleName (place_if b c.args.at) c.fault_if.result)
+    (was_there (λ k. k.now) c.args.seen.now.keys c.args.name.now c.args.name.now c.in_ok-is_new.is_new c.in_ok-is_new.ensures.added refl)
     c.fault_if.ensures

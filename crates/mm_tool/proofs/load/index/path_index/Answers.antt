@@ -1,12 +1,23 @@
-use Rattle.std.proofs.Common.{◌≡◌, get_or, sym, subst, arith}
+use Rattle.std.proofs.Common.{◌≡◌, ◌<◌, length, map, get_or, sym, ◌∙◌, ap, arith}
+use Rattle.std.proofs.lemmas.List.{get_or-map, length-map}
 use Rattle.mm_tool.specs.Names.{leads}
+use Rattle.mm_tool.specs.Seen.{function_seen}
 use Rattle.mm_tool.proofs.Places.{index_more, index_all}
 use Rattle.mm_tool.proofs.load.index.path_index.Goals as goal
 
 pub loop-place-preserved : goal.loop-place-preserved
 loop-place-preserved c =
-    let at : c.as_slice.result.now ≡ get_or c.args.paths.now c.loop-place.place c.as_slice.result.now = subst (λ p. p ≡ get_or c.args.paths.now c.loop-place.place p) (sym c.as_slice.ensures) c.index-paths-place.is in
-    index_more c.args.paths.now c.loop-place.place (leads c.loop-place.index) (leads c.note.new.index) c.as_slice.result.now c.loop-place.invariant c.loop-place-test.true at c.in_ok-note.ensures
+    let written = c.args.functions.now in
+    let functions = map function_seen written in
+    let paths = map (λ d. d.path) functions in
+    let i = c.loop-place.place in
+    let function = c.index-functions-place.result in
+    let path = function.path.now in
+    let within : i < length functions = omega (arith, length-map written function_seen, c.loop-place-test.true) in
+    let at : path ≡ get_or paths i path = ap (λ d. d.path.now) c.index-functions-place.is ∙ sym (ap (λ d. d.path) (get_or-map function_seen written i function (function_seen function) c.loop-place-test.true)) ∙ sym (get_or-map (λ d. d.path) functions i (function_seen function) path within) in
+    index_more paths i (leads c.loop-place.index) (leads c.note.new.index) path c.loop-place.invariant (omega (arith, within, length-map functions (λ d. d.path))) at c.in_ok-note.ensures
 
 pub returns : goal.returns
-returns c = index_all c.args.paths.now c.loop-place.place (leads c.loop-place.index) c.loop-place.invariant (omega arith)
+returns c =
+    let written = c.args.functions.now in
+    index_all (map (λ d. d.path) (map function_seen written)) c.loop-place.place (leads c.loop-place.index) c.loop-place.invariant (omega (arith, length-map written function_seen, length-map (map function_seen written) (λ d. d.path)))

@@ -3,6 +3,7 @@ pub mod CommandLines
 pub mod CommandNumbers
 pub mod Givens
 pub mod GrammarReads
+pub mod ItemLemmas
 pub mod Judgements
 pub mod Levels
 pub mod LexFrontLaws
@@ -14,6 +15,7 @@ pub mod LexTextLaws
 pub mod LexWordLemmas
 pub mod Loops
 pub mod Meanings
+pub mod MemberLemmas
 pub mod OneOrder
 pub mod OneReport
 pub mod Places

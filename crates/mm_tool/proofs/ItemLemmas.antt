@@ -1,20 +1,37 @@
--- What an item and what stands in it are placed as.
-use Rattle.std.proofs.Common.{◌≡◌, ℕ, List, [], ◌∷◌, ◌++◌, map, refl, ◌∙◌, ap}
+-- What is said of an item, part by part.
+use Rattle.std.proofs.Common.{◌≡◌, ℕ, List, [], ◌∷◌, ◌++◌, map, Result, refl, sym, ◌∙◌, ap, subst}
 use Rattle.std.specs.List.{flat_map}
 use Rattle.mm_tool.specs.declared.ast.Item.{Item}
 use Rattle.mm_tool.specs.declared.ast.Item.TheViews.{out-Item}
-use Rattle.mm_tool.specs.WrittenItem.{Placed, path_in, placed_in, item_fold-parts}
+use Rattle.mm_tool.specs.declared.ast.Name.{Name}
+use Rattle.mm_tool.specs.declared.load.load_error.LoadError.{LoadError}
+use Rattle.mm_tool.specs.declared.load.rule.Rule.{Rule}
+use Rattle.mm_tool.specs.Asking.{Tells}
+use Rattle.mm_tool.specs.Rules.{again, repeated_in, Member, member_of, double_among}
+use Rattle.mm_tool.specs.WrittenItem.{Defined, name_of, items_in, path_in, defined_by, functions_in, item_fold-parts}
 
--- the item alone, where it stands in the module with a path
-abbrev pub item_at : Item → List ℕ → Placed
-item_at item front = record { path = path_in front (out-Item item).name.text; at = (out-Item item).at; name = (out-Item item).name; form = (out-Item item).form }
-
-flat_map-applied : (path : List ℕ) (items : List Item) → flat_map (λ placed. placed path) (map placed_in items) ≡ flat_map (λ inner. placed_in inner path) items
+flat_map-applied : (path : List ℕ) (items : List Item) → flat_map (λ functions. functions path) (map functions_in items) ≡ flat_map (λ inner. functions_in inner path) items
 flat_map-applied path [] = refl
-flat_map-applied path (x ∷ xs) = ap (λ l. placed_in x path ++ l) (flat_map-applied path xs)
+flat_map-applied path (x ∷ xs) = ap (λ l. functions_in x path ++ l) (flat_map-applied path xs)
 
-pub placed_in-parts : (item : Item) (front : List ℕ) → placed_in item front ≡ item_at item front ∷ flat_map (λ inner. placed_in inner (path_in front (out-Item item).name.text)) (out-Item item).items
-unfolding placed_in
-placed_in-parts item front =
-    ap {A = List ℕ → List Placed} (λ placed. placed front) (item_fold-parts (λ at name form inside front. record { path = path_in front name.text; at = at; name = name; form = form } ∷ flat_map (λ placed. placed (path_in front name.text)) inside) item)
-    ∙ ap (λ l. item_at item front ∷ l) (flat_map-applied (path_in front (out-Item item).name.text) (out-Item item).items)
+pub functions_in-parts : (item : Item) (front : List ℕ) → functions_in item front ≡ defined_by (path_in front (name_of item).text) (out-Item item).at (out-Item item).form ++ flat_map (λ inner. functions_in inner (path_in front (name_of item).text)) (items_in item)
+unfolding functions_in
+functions_in-parts item front =
+    let path = path_in front (name_of item).text in
+    ap {A = List ℕ → List Defined} (λ functions. functions front) (item_fold-parts (λ at name form inside front. defined_by (path_in front name.text) at form ++ flat_map (λ functions. functions (path_in front name.text)) inside) item)
+    ∙ ap (λ l. defined_by path (out-Item item).at (out-Item item).form ++ l) (flat_map-applied path (items_in item))
+
+pub member_of-parts : (item : Item) → member_of item ≡ record { name = name_of item; inside = repeated_in (out-Item item).form ++ double_among (map member_of (items_in item)) }
+unfolding member_of
+member_of-parts item = item_fold-parts (λ at name form members. record { name = name; inside = repeated_in form ++ double_among members }) item
+
+pub member_of-name : (item : Item) → (member_of item).name ≡ name_of item
+member_of-name item = ap (λ m. m.name) (member_of-parts item)
+
+-- what is told of the name of an item and of what is inside it is told of it as a member of its module
+pub tells_of_member : (rule : Rule) (names : List (List ℕ)) (item : Item) (r : Result (Unit {0}) LoadError) → Tells rule (again names (name_of item).text (name_of item).at ++ (member_of item).inside) r → Tells rule (again names (member_of item).name.text (member_of item).name.at ++ (member_of item).inside) r
+tells_of_member rule names item r t = subst (λ name. Tells rule (again names name.text name.at ++ (member_of item).inside) r) (sym (member_of-name item)) t
+
+-- what is told of the parts of an item is told of what is inside it
+pub tells_inside : (rule : Rule) (item : Item) (r : Result (Unit {0}) LoadError) → Tells rule (repeated_in (out-Item item).form ++ double_among (map member_of (items_in item))) r → Tells rule (member_of item).inside r
+tells_inside rule item r t = subst (λ ps. Tells rule ps r) (sym (ap (λ m. m.inside) (member_of-parts item))) t

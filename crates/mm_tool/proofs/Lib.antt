@@ -5,6 +5,7 @@ pub mod CommandNumbers
 pub mod EndReads
 pub mod Givens
 pub mod GrammarReads
+pub mod ItemLemmas
 pub mod ItemReads
 pub mod Judgements
 pub mod Levels
@@ -17,6 +18,7 @@ pub mod LexTextLaws
 pub mod LexWordLemmas
 pub mod Loops
 pub mod Meanings
+pub mod MemberLemmas
 pub mod NameReads
 pub mod OneOrder
 pub mod OneReport

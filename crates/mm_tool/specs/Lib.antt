@@ -15,7 +15,9 @@ pub mod Parsing
 pub mod Reading
 pub mod Report
 pub mod Rules
+pub mod Seen
 pub mod TypeText
 pub mod WordReading
 pub mod Words
+pub mod WrittenItem
 pub mod WrittenType

@@ -8,6 +8,7 @@ use Rattle.mm_tool.specs.declared.ast.Crate.{Crate}
 use Rattle.mm_tool.specs.declared.ast.Function.{Function}
 use Rattle.mm_tool.specs.declared.ast.Form.{Form}
 use Rattle.mm_tool.specs.declared.ast.Form.TheVariants as forms
+use Rattle.mm_tool.specs.declared.ast.Item.{Item}
 use Rattle.mm_tool.specs.declared.ast.Name.{Name}
 use Rattle.mm_tool.specs.declared.ast.Type as written
 use Rattle.mm_tool.specs.declared.ast.Head.{Head}
@@ -29,7 +30,7 @@ use Rattle.mm_tool.specs.declared.ast.Operand.TheVariants as operands
 use Rattle.mm_tool.specs.declared.load.rule.Rule.{Rule}
 use Rattle.mm_tool.specs.declared.load.rule.Rule.TheVariants.{UnknownName, DoubleName, WrongArity, BadMain, LongType}
 use Rattle.mm_tool.specs.Names.{Names, path_named, main_path, names_in}
-use Rattle.mm_tool.specs.WrittenItem.{Placed, Defined, items_of, functions_of, paths_in}
+use Rattle.mm_tool.specs.WrittenItem.{Defined, item_fold, functions_of, paths_in}
 use Rattle.mm_tool.specs.WrittenType.{written_fold, at_of}
 
 -- the place, where something fails
@@ -157,14 +158,21 @@ unfoldable pub repeated_in : Form → List Place
 repeated_in forms.Module = []
 repeated_in (forms.Function f) = repeated f.type_params
 
--- the name of the item, where those before it have these paths, and its type parameters
-unfoldable pub double_in_item : List (List ℕ) → Placed → List Place
-double_in_item paths item = again paths item.path item.name.at ++ repeated_in item.form
+-- an item as its module has it: its name, and the names that stand before already inside it
+pub record Member : Type 0 where
+  pub name : Name
+  pub inside : List Place
 
--- No two items of one module have one name, be they functions or modules. So no two items have one path. Where two
--- modules have one, the second of them stands before all that is in it, and is the place.
-unfoldable pub double_in_items : List Placed → List Place
-double_in_items items = along (λ before item. double_in_item (map (λ other. other.path) before) item) [] items
+-- the items of one module: of each its name, where an earlier one has it, and what is inside it
+unfoldable pub double_among : List Member → List Place
+double_among members = along (λ before m. again (map (λ other. other.name.text) before) m.name.text m.name.at ++ m.inside) [] members
+
+-- inside a function there are its type parameters, and inside a module its items
+unfoldable pub member_of : Item → Member
+member_of = item_fold (λ at name form members. record { name = name; inside = repeated_in form ++ double_among members })
+
+abbrev pub double_in_items : List Item → List Place
+double_in_items items = double_among (map member_of items)
 
 -- ---- WrongArity
 
@@ -228,7 +236,7 @@ long_in_functions functions = flat_map (λ d. long_in_function d.function) funct
 -- the places where a rule fails
 unfoldable pub fails : Rule → Crate → List Place
 fails UnknownName tree = unknown_in_functions (paths_in tree) (functions_of tree)
-fails DoubleName tree = double_in_items (items_of tree)
+fails DoubleName tree = double_in_items tree.items
 fails WrongArity tree = misfits_in_functions (paths_in tree) (functions_of tree)
 fails BadMain tree = bad_main (paths_in tree) (functions_of tree) tree
 fails LongType tree = long_in_functions (functions_of tree)

@@ -1,4 +1,4 @@
--- The items of a crate, in order of their first tokens: each module, and then what stands in it.
+-- The items of a crate: each has a place, a name, a form and a list of items in it.
 use Rattle.std.specs.Prelude.{◌≡◌, ℕ, List, [], ◌∷◌, ◌++◌, map}
 use Rattle.std.specs.List.{flat_map}
 use Rattle.mm_tool.specs.declared.lex.token.Place.{Place}
@@ -12,47 +12,41 @@ use Rattle.mm_tool.specs.declared.ast.Item.TheViews.{out-Item}
 use Rattle.mm_tool.specs.declared.ast.Item.TheFolds.{fold-Item, fold_out-Item}
 use Rattle.mm_tool.specs.Names.{Names, joined, place_of}
 
+-- what an item is named
+abbrev pub name_of : Item → Name
+name_of item = (out-Item item).name
+
+-- what stands right in an item
+abbrev pub items_in : Item → List Item
+items_in item = (out-Item item).items
+
 -- a value of an item, by its place, its name, its form and the values of what stands in it
 abbrev pub item_fold : {A : Type 0} → (Place → Name → Form → List A → A) → Item → A
 item_fold {A} step = fold-Item A (λ layer. step layer.at layer.name layer.form layer.items)
 
--- an item beside what stands in it, and its path
-pub record Placed : Type 0 where
-  pub path : List ℕ
-  pub at : Place
-  pub name : Name
-  pub form : Form
-
--- the path of what has a name in the module with a path
-abbrev pub path_in : List ℕ → List ℕ → List ℕ
-path_in front name = joined front (name ∷ [])
-
--- an item and what stands in it, where the item stands in the module with a path
-unfoldable pub placed_in : Item → List ℕ → List Placed
-placed_in = item_fold (λ at name form inside front. record { path = path_in front name.text; at = at; name = name; form = form } ∷ flat_map (λ placed. placed (path_in front name.text)) inside)
-
--- all items of a crate
-unfoldable pub items_of : Crate → List Placed
-items_of tree = flat_map (λ item. placed_in item tree.name) tree.items
-
--- a function and its path
+-- a function of a crate: its path, the place of its first token, and what is written of it
 pub record Defined : Type 0 where
   pub path : List ℕ
   pub at : Place
   pub function : Function
 
--- the item, where it is a function
+-- the path of what has a name in the module with a path
+abbrev pub path_in : List ℕ → List ℕ → List ℕ
+path_in front name = joined front (name ∷ [])
+
+-- an item alone, where it is a function
 abbrev pub defined_by : List ℕ → Place → Form → List Defined
 defined_by path at forms.Module = []
 defined_by path at (forms.Function f) = record { path = path; at = at; function = f } ∷ []
 
--- the functions among the items
-unfoldable pub functions_among : List Placed → List Defined
-functions_among items = flat_map (λ item. defined_by item.path item.at item.form) items
+-- an item where it is a function, and the functions of what stands in it; the item stands in the module with a path
+unfoldable pub functions_in : Item → List ℕ → List Defined
+functions_in = item_fold (λ at name form inside front. defined_by (path_in front name.text) at form ++ flat_map (λ functions. functions (path_in front name.text)) inside)
 
--- all functions of a crate: the place of each, from 0, is its number
-abbrev pub functions_of : Crate → List Defined
-functions_of tree = functions_among (items_of tree)
+-- All functions of a crate, modules entered where they stand, and so in order of their first tokens. The place of a
+-- function, from 0, is its number.
+unfoldable pub functions_of : Crate → List Defined
+functions_of tree = flat_map (λ item. functions_in item tree.name) tree.items
 
 -- to which of these functions each path leads
 abbrev pub paths_to : List Defined → Names
@@ -64,5 +58,5 @@ paths_in tree = paths_to (functions_of tree)
 
 -- ---- laws
 
-pub item_fold-parts : {A : Type 0} (step : Place → Name → Form → List A → A) (item : Item) → item_fold step item ≡ step (out-Item item).at (out-Item item).name (out-Item item).form (map (item_fold step) (out-Item item).items)
+pub item_fold-parts : {A : Type 0} (step : Place → Name → Form → List A → A) (item : Item) → item_fold step item ≡ step (out-Item item).at (name_of item) (out-Item item).form (map (item_fold step) (items_in item))
 item_fold-parts {A} step item = fold_out-Item A (λ layer. step layer.at layer.name layer.form layer.items) item

@@ -5,8 +5,8 @@ ghost use Rattle.mm_tool.specs.Asking.{Judges};
 ghost use Rattle.mm_tool.specs.Meaning.{IsProgram};
 ghost use Rattle.mm_tool.specs.Names.{leads};
 ghost use Rattle.mm_tool.specs.Rules.{IsFirstFault, KeepsRules};
-ghost use Rattle.mm_tool.specs.Seen.{item_seen, function_seen};
-ghost use Rattle.mm_tool.specs.WrittenItem.{items_of, functions_of, paths_in};
+ghost use Rattle.mm_tool.specs.Seen.{function_seen};
+ghost use Rattle.mm_tool.specs.WrittenItem.{functions_of, paths_in};
 ghost use Rattle.mm_tool.specs.declared.ast.Crate.{Crate};
 ghost use Rattle.mm_tool.specs.declared.lex.token.Place.{Place};
 ghost use Rattle.mm_tool.specs.declared.load.load_error.LoadError.TheVariants as errors;
@@ -15,8 +15,8 @@ ghost use Rattle.mm_tool.specs.declared.load.rule.Rule as rules;
 mod bad_main;
 mod bodies;
 mod double_name;
+mod functions;
 mod index;
-mod items;
 mod load_error;
 mod long_type;
 mod program;
@@ -26,29 +26,25 @@ mod unknown_name;
 mod wrong_arity;
 
 use crate::ast;
+use functions::{Defined, functions};
 use index::{Index, path_index};
-use items::{Defined, Placed, functions, items};
 pub use load_error::LoadError;
 use mm_collect::Program;
 use program::load_program;
 pub use rule::Rule;
 use std::alloc::Global;
 
-/// Asks the rules of a tree in their order. Of the tree there are its items, its functions and the index of their paths.
+/// Asks the rules of a tree in their order. The index is that of the paths of its functions.
 fn check_rules(
     alloc: Global,
     tree: &ast::Crate,
-    items: &[Placed<'_>],
     functions: &[Defined<'_>],
     paths: &Index<'_>,
 ) -> Result<(), LoadError>
-    ensures { map item_seen items.now ≡ items_of tree.now
-        → map function_seen functions.now ≡ functions_of tree.now
-        → leads paths.now ≡ paths_in tree.now
-        → Judges tree.now result }
+    ensures { map function_seen functions.now ≡ functions_of tree.now → leads paths.now ≡ paths_in tree.now → Judges tree.now result }
 {
     unknown_name::check(alloc, paths, functions)?;
-    double_name::check(alloc, items)?;
+    double_name::check(alloc, tree.items.as_slice())?;
     wrong_arity::check(alloc, paths, functions)?;
     bad_main::check(alloc, paths, functions, tree)?;
     long_type::check(functions)
@@ -65,10 +61,9 @@ pub fn load(alloc: Global, tree: &ast::Crate) -> Result<Program, LoadError>
     ensures program { IfOk result (IsProgram tree.now) }
     ensures fault { (rule : rules.Rule) (at : Place) → result ≡ Err (errors.Rule rule at) → IsFirstFault tree.now rule at }
 {
-    let items = items(alloc, tree)?;
-    let functions = functions(alloc, &items)?;
+    let functions = functions(alloc, tree)?;
     let paths = path_index(alloc, &functions)?;
-    check_rules(alloc, tree, &items, &functions, &paths)?;
+    check_rules(alloc, tree, &functions, &paths)?;
     Ok(load_program(alloc, &paths, &functions, tree)?)
 }
 

@@ -7,8 +7,8 @@ ghost use Rattle.mm_tool.specs.Rules.{is_bare, bad_main};
 ghost use Rattle.mm_tool.specs.declared.load.rule.Rule.TheVariants.{BadMain};
 
 use crate::ast;
+use crate::load::functions::{Defined, path_in};
 use crate::load::index::{Index, function_at};
-use crate::load::items::{Defined, path_in};
 use crate::load::load_error::{LoadError, fault_if};
 use crate::load::rule::Rule;
 use std::alloc::Global;

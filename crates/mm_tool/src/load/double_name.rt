@@ -1,19 +1,17 @@
 //! Names that stand twice.
 ghost use Rattle.std.specs.Prelude.{◌≡◌, [], ◌∷◌, ◌++◌, map, OnOk};
 ghost use Rattle.mm_tool.specs.Asking.{Tells};
-ghost use Rattle.mm_tool.specs.Rules.{again, repeated, repeated_in, double_in_item, double_in_items};
-ghost use Rattle.mm_tool.specs.Seen.{item_seen};
+ghost use Rattle.mm_tool.specs.Rules.{again, repeated, repeated_in, member_of, double_in_items};
 ghost use Rattle.mm_tool.specs.declared.load.rule.Rule.TheVariants.{DoubleName};
 
 use crate::ast;
 use crate::lex::Place;
-use crate::load::items::Placed;
 use crate::load::load_error::{LoadError, fault_if};
 use crate::load::rule::Rule;
 use indexmap::IndexSet;
 use std::alloc::Global;
 
-/// Adds a name, or a path, to those that were seen.
+/// Adds a name to those that were seen.
 fn check_name<'a>(seen: &mut IndexSet<&'a [u8]>, name: &'a [u8], at: Place) -> Result<(), LoadError>
     ensures answer { Tells DoubleName (again (map (λ k. k.now) seen.old.keys) name.now at) result }
     ensures seen { OnOk result (map (λ k. k.now) seen.new.keys ≡ map (λ k. k.now) seen.old.keys ++ name.now ∷ []) }
@@ -44,27 +42,28 @@ fn check_form(alloc: Global, form: &ast::Form) -> Result<(), LoadError>
     }
 }
 
-/// The name of an item, where the paths of those before it were seen, and its type parameters.
-#[tactic(auto, unfolding(crate::specs::Rules::double_in_item), using(crate::proofs::AskingLemmas::tells_here, crate::proofs::AskingLemmas::tells_next))]
-fn check_item<'a>(
-    alloc: Global,
-    seen: &mut IndexSet<&'a [u8]>,
-    item: &'a Placed<'_>,
-) -> Result<(), LoadError>
-    ensures answer { Tells DoubleName (double_in_item (map (λ k. k.now) seen.old.keys) (item_seen item.now)) result }
-    ensures seen { OnOk result (map (λ k. k.now) seen.new.keys ≡ map (λ k. k.now) seen.old.keys ++ item.now.path ∷ []) }
+/// Asks whether the names inside an item differ: those of the type parameters of a function, and those of the items of
+/// a module, and of each module in it.
+fn check_inside(alloc: Global, item: &ast::Item) -> Result<(), LoadError>
+    ensures { Tells DoubleName (member_of item.now).inside result }
 {
-    check_name(seen, item.path.as_slice(), item.name.at)?;
-    check_form(alloc, item.form)
+    check_form(alloc, &item.form)?;
+    let mut seen = IndexSet::new(alloc);
+    for inner in item.items.as_slice() {
+        check_name(&mut seen, inner.name.text.as_slice(), inner.name.at)?;
+        check_inside(alloc, inner)?;
+    }
+    Ok(())
 }
 
 /// Asks whether the names of the items of each module differ, and those of the type parameters of each function.
-pub fn check(alloc: Global, items: &[Placed<'_>]) -> Result<(), LoadError>
-    ensures { Tells DoubleName (double_in_items (map item_seen items.now)) result }
+pub fn check(alloc: Global, items: &[ast::Item]) -> Result<(), LoadError>
+    ensures { Tells DoubleName (double_in_items items.now) result }
 {
     let mut seen = IndexSet::new(alloc);
     for item in items {
-        check_item(alloc, &mut seen, item)?;
+        check_name(&mut seen, item.name.text.as_slice(), item.name.at)?;
+        check_inside(alloc, item)?;
     }
     Ok(())
 }

@@ -7,7 +7,7 @@ ghost use Rattle.mm_tool.specs.Seen.{function_seen};
 ghost use Rattle.mm_tool.specs.WrittenItem.{paths_to};
 
 use crate::ast;
-use crate::load::items::Defined;
+use crate::load::functions::Defined;
 use indexmap::IndexMap;
 use mm_terms::NoMemory;
 use std::alloc::Global;
@@ -42,12 +42,12 @@ fn note<'a>(index: &mut Index<'a>, name: &'a [u8], place: usize) -> Result<(), N
 }
 
 /// The index of the paths of these functions.
-pub fn path_index<'a>(alloc: Global, functions: &[Defined<'a>]) -> Result<Index<'a>, NoMemory>
+pub fn path_index<'a>(alloc: Global, functions: &'a [Defined<'_>]) -> Result<Index<'a>, NoMemory>
     ensures { IfOk result (λ index. leads index ≡ paths_to (map function_seen functions.now)) }
 {
     let mut index = IndexMap::new(alloc);
     for (place, function) in functions.iter().enumerate() {
-        note(&mut index, function.path, place)?;
+        note(&mut index, function.path.as_slice(), place)?;
     }
     Ok(index)
 }
@@ -71,13 +71,13 @@ pub fn find(index: &Index<'_>, name: &[u8]) -> Option<u32>
 }
 
 /// The function to which a path leads.
-pub fn function_at<'a>(
+pub fn function_at<'a, 'b>(
     paths: &Index<'_>,
-    functions: &[Defined<'a>],
+    functions: &'b [Defined<'a>],
     path: &[u8],
-) -> Option<Defined<'a>>
-    ensures { option_map function_seen result ≡ function_at (leads paths.now) (map function_seen functions.now) path.now }
+) -> Option<&'b Defined<'a>>
+    ensures { option_map (λ d. function_seen d.now) result ≡ function_at (leads paths.now) (map function_seen functions.now) path.now }
 {
     let place = find(paths, path)?;
-    functions.get(place as usize).copied()
+    functions.get(place as usize)
 }

@@ -7,7 +7,7 @@ ghost use Rattle.mm_tool.specs.Seen.{function_seen};
 ghost use Rattle.mm_tool.specs.declared.load.rule.Rule.TheVariants.{LongType};
 
 use crate::ast;
-use crate::load::items::Defined;
+use crate::load::functions::Defined;
 use crate::load::load_error::{LoadError, fault_if};
 use crate::load::rule::Rule;
 

@@ -6,8 +6,8 @@ ghost use Rattle.mm_tool.specs.Seen.{function_seen};
 
 use crate::ast;
 use crate::load::bodies::load_blocks;
+use crate::load::functions::{Defined, path_in};
 use crate::load::index::{Index, type_param_index};
-use crate::load::items::{Defined, path_in};
 use crate::load::types::{add_types, load_result, place};
 use mm_collect::{Function, Program};
 use mm_terms::{DefId, NoMemory, Text, Tys};
@@ -44,7 +44,7 @@ fn load_in_scope(
     };
     Ok(Function {
         is_pub: function.is_pub,
-        path: Text::from_slice(alloc, defined.path)?,
+        path: Text::from_slice(alloc, defined.path.as_slice())?,
         type_params,
         params,
         locals: load_locals(alloc, scope, function)?,

@@ -9,8 +9,8 @@ ghost use Rattle.mm_tool.specs.declared.load.rule.Rule.TheVariants.{UnknownName}
 
 use crate::ast;
 use crate::lex::Place;
+use crate::load::functions::Defined;
 use crate::load::index::{Index, find, path_text, type_param_index};
-use crate::load::items::Defined;
 use crate::load::load_error::{LoadError, fault_if};
 use crate::load::rule::Rule;
 use std::alloc::Global;

@@ -7,8 +7,8 @@ ghost use Rattle.mm_tool.specs.Rules.{fits, misfit_call, misfit_block, misfits_i
 ghost use Rattle.mm_tool.specs.declared.load.rule.Rule.TheVariants.{WrongArity};
 
 use crate::ast;
+use crate::load::functions::Defined;
 use crate::load::index::{Index, function_at, path_text};
-use crate::load::items::Defined;
 use crate::load::load_error::{LoadError, fault_if};
 use crate::load::rule::Rule;
 use std::alloc::Global;

@@ -1,17 +1,16 @@
 use Rattle.std.proofs.Common.{◌≡◌, map, ◌∙◌, ap}
 use Rattle.mm_tool.specs.Names.{leads}
-use Rattle.mm_tool.specs.Seen.{item_seen, function_seen}
-use Rattle.mm_tool.specs.WrittenItem.{items_of, functions_among, functions_of, paths_to, paths_in}
+use Rattle.mm_tool.specs.Seen.{function_seen}
+use Rattle.mm_tool.specs.WrittenItem.{functions_of, paths_to, paths_in}
 use Rattle.mm_tool.specs.Meaning.{program_in}
 use Rattle.mm_tool.proofs.load.load.Goals as goal
 
 pub returns-clause-program : goal.returns-clause-program
 returns-clause-program c =
     let tree = c.args.tree.now in
-    let these : map item_seen c.in_ok-items.items.items ≡ items_of tree = c.in_ok-items.ensures in
-    let those : map function_seen c.in_ok-functions.functions.items ≡ functions_of tree = c.in_ok-functions.ensures ∙ ap functions_among (ap (map item_seen) c.deref.ensures.value ∙ these) in
-    let same : leads c.in_ok-paths.paths ≡ paths_in tree = c.in_ok-paths.ensures ∙ ap paths_to (ap (map function_seen) c.deref-2.ensures.value ∙ those) in
+    let those : map function_seen c.in_ok-functions.functions.items ≡ functions_of tree = c.in_ok-functions.ensures in
+    let same : leads c.in_ok-paths.paths ≡ paths_in tree = c.in_ok-paths.ensures ∙ ap paths_to (ap (map function_seen) c.deref.ensures.value ∙ those) in
     record {
-      kept = c.in_ok-check_rules.ensures (ap (map item_seen) c.deref-3.ensures.value ∙ these) (ap (map function_seen) c.deref-4.ensures.value ∙ those) same;
-      means = c.in_ok-load_program.ensures ∙ ap (λ fs. program_in (leads c.in_ok-paths.paths) fs tree) (ap (map function_seen) c.deref-5.ensures.value ∙ those) ∙ ap (λ ns. program_in ns (functions_of tree) tree) same;
+      kept = c.in_ok-check_rules.ensures (ap (map function_seen) c.deref-2.ensures.value ∙ those) same;
+      means = c.in_ok-load_program.ensures ∙ ap (λ fs. program_in (leads c.in_ok-paths.paths) fs tree) (ap (map function_seen) c.deref-3.ensures.value ∙ those) ∙ ap (λ ns. program_in ns (functions_of tree) tree) same;
     }

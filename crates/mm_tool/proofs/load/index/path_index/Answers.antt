@@ -12,9 +12,9 @@ loop-place-preserved c =
     let paths = map (λ d. d.path) functions in
     let i = c.loop-place.place in
     let function = c.index-functions-place.result in
-    let path = function.path.now in
+    let path = c.as_slice.result.now in
     let within : i < length functions = omega (arith, length-map written function_seen, c.loop-place-test.true) in
-    let at : path ≡ get_or paths i path = ap (λ d. d.path.now) c.index-functions-place.is ∙ sym (ap (λ d. d.path) (get_or-map function_seen written i function (function_seen function) c.loop-place-test.true)) ∙ sym (get_or-map (λ d. d.path) functions i (function_seen function) path within) in
+    let at : path ≡ get_or paths i path = c.as_slice.ensures ∙ ap (λ d. d.path) c.index-functions-place.is ∙ sym (ap (λ d. d.path) (get_or-map function_seen written i function (function_seen function) c.loop-place-test.true)) ∙ sym (get_or-map (λ d. d.path) functions i (function_seen function) path within) in
     index_more paths i (leads c.loop-place.index) (leads c.note.new.index) path c.loop-place.invariant (omega (arith, within, length-map functions (λ d. d.path))) at c.in_ok-note.ensures
 
 pub returns : goal.returns

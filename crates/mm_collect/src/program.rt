@@ -35,14 +35,16 @@ pub struct Function {
     pub blocks: Items<Block>,
 }
 
-/// A block of a body: statements, which are executed in order, and an end.
+/// A block of a body.
 #[derive(Debug, Drop)]
 pub struct Block {
+    /// What is done first, in order.
     pub statements: Items<Statement>,
+    /// What is done then, and where the run goes on.
     pub end: End,
 }
 
-/// What is done within a block.
+/// A step of a block before its end.
 #[derive(Clone, Copy, Debug, PartialEq, Eq, Hash)]
 pub enum Statement {
     /// Makes a value, and then writes it into a place.
@@ -61,6 +63,7 @@ pub struct Place {
 /// How a value is made. Operands are read from left to right.
 #[derive(Clone, Copy, Debug, PartialEq, Eq, Hash)]
 pub enum Rvalue {
+    /// The value of an operand as it is.
     Use(Operand),
     /// The other truth value.
     Not(Operand),
@@ -70,11 +73,12 @@ pub enum Rvalue {
 /// An operation on two values. Both are numbers; `Eq` also takes two truth values.
 #[derive(Clone, Copy, Debug, PartialEq, Eq, Hash)]
 pub enum Op {
-    /// The sum, as far as it is in the range of `u64`. So it is with `Sub` and `Mul`.
+    /// The sum. There is none outside the range of `u64`, and so it is with `Sub` and `Mul`.
     Add,
+    /// The first less the second.
     Sub,
     Mul,
-    /// The quotient without its remainder. As with `Rem`, there is none by 0.
+    /// The quotient without its remainder. There is none by 0, and so it is with `Rem`.
     Div,
     Rem,
     /// Whether they are equal.
@@ -94,26 +98,28 @@ pub enum Operand {
     Truth(bool),
 }
 
-/// What is done at the end of a block.
+/// The end of a block.
 #[derive(Debug, Drop)]
 pub enum End {
     /// Goes back to the caller with what the result's local has.
     Return,
-    /// Says that no run comes here. One that does is ended.
+    /// Says that no run comes here. One that does ends.
     Unreachable,
     /// Goes on at a block.
     Goto(u32),
-    /// Goes on at the block of the first arm that has the operand's number, or else at the last block. As a number,
-    /// `false` is 0 and `true` is 1.
+    /// Goes on at the block of the first arm that has the operand's number, or else at the block that is given last. As a
+    /// number, `false` is 0 and `true` is 1.
     Switch(Operand, Items<Arm>, u32),
     /// Calls a function, and goes on when it returns.
     Call(Call),
 }
 
-/// An arm of a switch: a number, and the block that is chosen by it.
+/// An arm of a switch.
 #[derive(Clone, Copy, Debug, PartialEq, Eq, Hash)]
 pub struct Arm {
+    /// The number by which it is chosen.
     pub number: u64,
+    /// The block at which the run goes on then.
     pub label: u32,
 }
 

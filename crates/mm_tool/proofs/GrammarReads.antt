@@ -1,5 +1,5 @@
 -- The reader of the whole text: a tree is read where and only where it is spelled, and one list of tokens spells one tree.
-use Rattle.std.proofs.Common.{◌≡◌, ℕ, List, [], ◌∷◌, false, Ok, refl, ap, ◌∙◌}
+use Rattle.std.proofs.Common.{◌≡◌, ℕ, List, false, Ok, refl, ap, ◌∙◌}
 use Rattle.mm_tool.specs.declared.lex.token.Place.{Place}
 use Rattle.mm_tool.specs.declared.lex.token.Token.{Token}
 use Rattle.mm_tool.specs.declared.lex.word.Word.TheVariants as words

@@ -1,5 +1,5 @@
 -- Readers of functions, of modules and of lists of items.
-use Rattle.std.proofs.Common.{◌≡◌, ℕ, zero, suc, List, [], ◌∷◌, ◌++◌, length, Bool, true, false, Option, Ok, refl, ap, subst, inl, inr, ◌⊎◌, ◌∙◌, sym, ◌||◌}
+use Rattle.std.proofs.Common.{◌≡◌, ℕ, zero, suc, List, [], ◌∷◌, ◌++◌, length, Bool, true, false, Option, Ok, refl, ap, subst, inl, inr, ◌⊎◌, ◌∙◌, sym}
 use Rattle.mm_tool.specs.declared.lex.token.Token.{Token}
 use Rattle.mm_tool.specs.declared.lex.token.TokenKind.TheVariants as kinds
 use Rattle.mm_tool.specs.declared.lex.word.Word.TheVariants as words

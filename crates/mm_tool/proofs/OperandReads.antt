@@ -1,5 +1,5 @@
 -- Readers of operands.
-use Rattle.std.proofs.Common.{◌≡◌, ℕ, List, [], ◌∷◌, ◌++◌, Bool, true, false, refl, subst, inl, inr, ◌⊎◌, sym, ◌||◌}
+use Rattle.std.proofs.Common.{◌≡◌, ℕ, List, [], ◌∷◌, ◌++◌, Bool, true, false, refl, subst, inl, inr, ◌⊎◌, sym}
 use Rattle.mm_tool.specs.declared.lex.token.Token.{Token}
 use Rattle.mm_tool.specs.declared.lex.token.TokenKind.TheVariants as kinds
 use Rattle.mm_tool.specs.declared.lex.word.Word.{Word}

@@ -207,7 +207,7 @@ form modules n forms.Module is ts = modules n is ts
 form modules n (forms.Function f) [] ts = function n f ts
 form modules n (forms.Function f) (i ∷ is) ts = ⊥
 
--- item = mod | fn . Modules, with their names and what stands in them, are spelled as is said.
+-- item = mod | fn . Modules are spelled as the given language says.
 abbrev pub item : (Name → List items.Item → List Token → Type 0) → ℕ → items.Item → List Token → Type 0
 item modules k i = from (out-Item i).at (form modules (out-Item i).name (out-Item i).form (out-Item i).items)
 

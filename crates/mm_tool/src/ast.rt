@@ -85,6 +85,7 @@ pub struct Block {
     pub end: End,
 }
 
+/// What a block does before it ends.
 #[derive(Debug, Drop)]
 pub enum Statement {
     /// A local that is written, and what is written into it.
@@ -131,6 +132,7 @@ pub struct Switch {
     pub otherwise: Label,
 }
 
+/// A number, and the block to go on with where the operand is this number.
 #[derive(Clone, Copy, Debug, PartialEq, Eq)]
 pub struct Arm {
     pub number: u64,
@@ -172,7 +174,7 @@ pub struct Label {
     pub number: u32,
 }
 
-/// What is handed to a call.
+/// A value that is read: that of a local, or one that is written out.
 #[derive(Clone, Copy, Debug, PartialEq, Eq)]
 pub enum Operand {
     Copy(Local),

@@ -54,7 +54,7 @@ fn some_blocks(alloc: Global, tokens: &[Token]) -> Result<(Items<Block>, &[Token
     Ok((blocks, rest))
 }
 
-/// The type of the local that is declared so many places behind the last parameter.
+/// The type of the local with the number `1 + params + place`, where it is declared.
 #[tactic(auto, unfolding(crate::specs::Parsing::declared_local_in))]
 fn declared_local(
     alloc: Global,

@@ -49,7 +49,7 @@ impl TokenKind {
         }
     }
 
-    /// Whether it is the local that stands so many places behind the last parameter.
+    /// Whether it is the local with the number `1 + params + place`.
     fn is_local_behind(&self, params: usize, place: usize) -> bool
         ensures { result ≡ is_local (1 + (params + place)) self.now }
     {
@@ -114,6 +114,7 @@ pub fn starts_label(tokens: &[Token]) -> bool
     }
 }
 
+/// Whether the next token is a local.
 pub fn starts_local(tokens: &[Token]) -> bool
     ensures { result ≡ starts is_any_local tokens.now }
 {
@@ -123,6 +124,7 @@ pub fn starts_local(tokens: &[Token]) -> bool
     }
 }
 
+/// Whether the next token is a number.
 pub fn starts_number(tokens: &[Token]) -> bool
     ensures { result ≡ starts is_number tokens.now }
 {
@@ -150,7 +152,7 @@ pub fn past_mark(mark: Mark, tokens: &[Token]) -> Result<&[Token], TextError>
     }
 }
 
-/// Past the local that stands so many places behind the last parameter.
+/// Past the local with the number `1 + params + place`.
 pub fn past_local_behind(
     params: usize,
     place: usize,

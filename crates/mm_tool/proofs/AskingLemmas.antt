@@ -70,7 +70,7 @@ module _ {A : Type 0} (f : List A → A → List Place) (xs : List A) (i : ℕ) 
   pub along_all : (rule : Rule) → along f [] xs ≡ along f (take i xs) (drop i xs) → length xs ≤ i → Tells rule (along f [] xs) (Ok tt)
   along_all rule so_far l = record { answer = so_far ∙ ap (along f (take i xs)) (drop_all i xs l) }
 
-flat_map-map : {A B : Type 0} (f : B → List Place) (g : A → B) (xs : List A) → flat_map f (map g xs) ≡ flat_map (λ x. f (g x)) xs
+pub flat_map-map : {A B C : Type 0} (f : B → List C) (g : A → B) (xs : List A) → flat_map f (map g xs) ≡ flat_map (λ x. f (g x)) xs
 flat_map-map f g [] = refl
 flat_map-map f g (x ∷ xs) = ap (λ ps. f (g x) ++ ps) (flat_map-map f g xs)
 

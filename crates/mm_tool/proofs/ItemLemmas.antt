@@ -8,18 +8,15 @@ use Rattle.mm_tool.specs.declared.load.load_error.LoadError.{LoadError}
 use Rattle.mm_tool.specs.declared.load.rule.Rule.{Rule}
 use Rattle.mm_tool.specs.Asking.{Tells}
 use Rattle.mm_tool.specs.Rules.{again, repeated_in, Member, member_of, double_among}
+use Rattle.mm_tool.proofs.AskingLemmas.{flat_map-map}
 use Rattle.mm_tool.specs.WrittenItem.{Defined, name_of, items_in, path_in, defined_by, functions_in, item_fold-parts}
-
-flat_map-applied : (path : List ℕ) (items : List Item) → flat_map (λ functions. functions path) (map functions_in items) ≡ flat_map (λ inner. functions_in inner path) items
-flat_map-applied path [] = refl
-flat_map-applied path (x ∷ xs) = ap (λ l. functions_in x path ++ l) (flat_map-applied path xs)
 
 pub functions_in-parts : (item : Item) (front : List ℕ) → functions_in item front ≡ defined_by (path_in front (name_of item).text) (out-Item item).at (out-Item item).form ++ flat_map (λ inner. functions_in inner (path_in front (name_of item).text)) (items_in item)
 unfolding functions_in
 functions_in-parts item front =
     let path = path_in front (name_of item).text in
     ap {A = List ℕ → List Defined} (λ functions. functions front) (item_fold-parts (λ at name form inside front. defined_by (path_in front name.text) at form ++ flat_map (λ functions. functions (path_in front name.text)) inside) item)
-    ∙ ap (λ l. defined_by path (out-Item item).at (out-Item item).form ++ l) (flat_map-applied path (items_in item))
+    ∙ ap (λ l. defined_by path (out-Item item).at (out-Item item).form ++ l) (flat_map-map (λ functions. functions path) functions_in (items_in item))
 
 pub member_of-parts : (item : Item) → member_of item ≡ record { name = name_of item; inside = repeated_in (out-Item item).form ++ double_among (map member_of (items_in item)) }
 unfolding member_of

@@ -203,7 +203,8 @@ misfits_in_functions paths functions = flat_map (λ d. misfits_in_function paths
 abbrev pub is_bare : Function → Bool
 is_bare f = nat_eq (length f.type_params) 0 && nat_eq (length f.params) 0
 
--- the function main at the crate's top that is not so, or the word `crate` where there is none
+-- The function main at the crate's top that is not so, or the word `crate` where there is none. No function of a module
+-- has its path.
 unfoldable pub bad_main : Names → List Defined → Crate → List Place
 bad_main paths functions tree = option_map_or (λ main. place_if (not (is_bare main.function)) main.at) (function_at paths functions (main_path tree.name)) (tree.at ∷ [])
 

@@ -56,7 +56,7 @@ fn check_rules(
 ///
 /// The first rule that fails, and the first place where it does; and want of memory. That is also the answer where a
 /// written head has children that it does not take, as a tuple of one type, which no text spells, and where a place or
-/// a number of type parameters is 2^32 or more, which none within the limit brings about.
+/// a number of type parameters or of parameters is 2^32 or more, which no text within the limit brings about.
 pub fn load(alloc: Global, tree: &ast::Crate) -> Result<Program, LoadError>
     ensures program { IfOk result (IsProgram tree.now) }
     ensures fault { (rule : rules.Rule) (at : Place) → result ≡ Err (errors.Rule rule at) → IsFirstFault tree.now rule at }

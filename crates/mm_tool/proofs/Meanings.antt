@@ -3,21 +3,21 @@ use Rattle.std.proofs.Common.{◌≡◌, ℕ, List, [], ◌∷◌, Some, Result,
 use Rattle.std.specs.List.{slice_get}
 use Rattle.std.specs.Str.{chars}
 use Rattle.mm_collect.specs.declared.program.Program.{Program}
-use Rattle.mm_tool.specs.declared.ast.Crate.{Crate}
-use Rattle.mm_tool.specs.declared.lex.token.Place.{Place}
-use Rattle.mm_tool.specs.declared.lex.token.Token.{Token}
-use Rattle.mm_tool.specs.declared.load.load_error.LoadError as errors
-use Rattle.mm_tool.specs.declared.load.load_error.LoadError.TheVariants.{Rule as Broken, NoMemory}
-use Rattle.mm_tool.specs.declared.load.rule.Rule.{Rule}
-use Rattle.mm_tool.specs.declared.text_error.TextError.TheVariants as refusals
-use Rattle.mm_tool.specs.Asking.{refusal_of}
-use Rattle.mm_tool.specs.LexText.{AreTokensOf, text_start}
-use Rattle.mm_tool.specs.Grammar as grammar
-use Rattle.mm_tool.specs.Meaning.{IsProgram}
+use Rattle.mm_parse.specs.declared.ast.Crate.{Crate}
+use Rattle.mm_lex.specs.declared.token.Place.{Place}
+use Rattle.mm_lex.specs.declared.token.Token.{Token}
+use Rattle.mm_load.specs.declared.load_error.LoadError as errors
+use Rattle.mm_load.specs.declared.load_error.LoadError.TheVariants.{Rule as Broken, NoMemory}
+use Rattle.mm_load.specs.declared.rule.Rule.{Rule}
+use Rattle.mm_lex.specs.declared.text_error.TextError.TheVariants as refusals
+use Rattle.mm_load.specs.Asking.{refusal_of}
+use Rattle.mm_lex.specs.LexText.{AreTokensOf, text_start}
+use Rattle.mm_parse.specs.Grammar as grammar
+use Rattle.mm_load.specs.Meaning.{IsProgram}
 use Rattle.mm_tool.specs.Report.{Means}
-use Rattle.mm_tool.specs.Rules.{fails, IsFirstFault}
-use Rattle.mm_tool.proofs.GrammarReads.{tree_one}
-use Rattle.mm_tool.proofs.LexTextLaws.{HaveTokens-one}
+use Rattle.mm_load.specs.Rules.{fails, IsFirstFault}
+use Rattle.mm_parse.proofs.GrammarReads.{tree_one}
+use Rattle.mm_lex.proofs.LexTextLaws.{HaveTokens-one}
 
 pub tokens_one : (text : List ℕ) (a b : List Token) → AreTokensOf text a → AreTokensOf text b → a ≡ b
 tokens_one text a b one other = HaveTokens-one text_start (chars text) a b one.have other.have

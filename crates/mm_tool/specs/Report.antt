@@ -7,12 +7,12 @@ use Rattle.mm_terms.specs.declared.item.Item.{Item}
 use Rattle.mm_collect.specs.declared.program.Program.{Program}
 use Rattle.mm_collect.specs.declared.program.Opts.{Opts}
 use Rattle.mm_collect.specs.Verdict.{IsAccepted, IsTooMany, IsTooLong}
-use Rattle.mm_tool.specs.declared.ast.Crate.{Crate}
-use Rattle.mm_tool.specs.declared.lex.token.Token.{Token}
+use Rattle.mm_parse.specs.declared.ast.Crate.{Crate}
+use Rattle.mm_lex.specs.declared.token.Token.{Token}
 use Rattle.mm_tool.specs.declared.words.Command.{Command}
-use Rattle.mm_tool.specs.LexText.{AreTokensOf}
-use Rattle.mm_tool.specs.Grammar as grammar
-use Rattle.mm_tool.specs.Meaning.{IsProgram}
+use Rattle.mm_lex.specs.LexText.{AreTokensOf}
+use Rattle.mm_parse.specs.Grammar as grammar
+use Rattle.mm_load.specs.Meaning.{IsProgram}
 use Rattle.mm_tool.specs.Listing.{IsListing}
 use Rattle.mm_tool.specs.Words.{AreWords, IsNoCommand}
 

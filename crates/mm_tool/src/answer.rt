@@ -3,13 +3,12 @@ ghost use Rattle.mm_collect.specs.declared.program.Program.{Program};
 ghost use Rattle.mm_tool.specs.Listing.{IsListing};
 ghost use Rattle.mm_tool.specs.Report.{Means, IsVerdict, IsAnswer, line};
 
-use crate::lex::lex;
 use crate::listing::list_items;
-use crate::load::load;
-use crate::parse::parse;
-use crate::text_error::TextError;
 use itoa::Buffer;
 use mm_collect::{CollectFault, Opts, Program, collect};
+use mm_lex::{TextError, lex};
+use mm_load::load;
+use mm_parse::parse;
 use mm_terms::NoMemory;
 use std::alloc::Global;
 

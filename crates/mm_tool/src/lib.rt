@@ -5,19 +5,13 @@
 #![tactic(auto)]
 
 mod answer;
-pub mod ast;
-pub mod lex;
 mod listing;
-pub mod load;
-pub mod parse;
-mod text_error;
 mod tool;
 mod type_texts;
 mod words;
 
 pub use answer::{Answer, answer_to, one_meaning, read_program};
 pub use listing::{item_text, list_items};
-pub use text_error::TextError;
 pub use tool::{TEXT_LIMIT, one_report, tool_one};
 pub use type_texts::type_text;
 pub use words::{Command, Verb, one_command, read_words};

@@ -1,10 +1,10 @@
 use super::*;
 use crate::answer::{answer_to, read_program};
-use crate::lex::lex;
-use crate::load::load;
-use crate::parse::parse;
 use mm_collect::Opts;
+use mm_lex::lex;
+use mm_load::load;
 use mm_outside::{BytesSink, BytesSource, NoMemory, Source};
+use mm_parse::parse;
 use mm_terms::{DefId, Item, Tys};
 use std::alloc::Global;
 use std::test::Fail;

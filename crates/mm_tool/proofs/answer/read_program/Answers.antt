@@ -1,8 +1,8 @@
 use Rattle.std.proofs.Common.{Err, ap, sym, subst}
 use Rattle.std.proofs.lemmas.Result.{err_from_is_err_and}
-use Rattle.mm_tool.specs.declared.text_error.TextError.TheVariants.{BadText}
-use Rattle.mm_tool.specs.Asking.{refusal_of}
-use Rattle.mm_tool.specs.Grammar as grammar
+use Rattle.mm_lex.specs.declared.text_error.TextError.TheVariants.{BadText}
+use Rattle.mm_load.specs.Asking.{refusal_of}
+use Rattle.mm_parse.specs.Grammar as grammar
 use Rattle.mm_tool.proofs.Meanings.{tree_of, program_of, refused, handed_on}
 use Rattle.mm_tool.proofs.answer.read_program.Goals as goal
 

@@ -1,0 +1,7 @@
+pub mod LexFrontLaws
+pub mod LexMarkLemmas
+pub mod LexNameLemmas
+pub mod LexNumberLemmas
+pub mod LexRunLemmas
+pub mod LexTextLaws
+pub mod LexWordLemmas

@@ -1,0 +1,5 @@
+pub mod LexMarks
+pub mod LexReading
+pub mod LexText
+pub mod LexTokens
+pub mod LexWords

@@ -1,0 +1,53 @@
+use Rattle.std.proofs.Common.{◌≡◌, ◌<◌, ◌∷◌, [], ◌++◌, Ok, Err, length, map, get_or, ◌∙◌, ap, subst, arith}
+use Rattle.std.proofs.lemmas.Result.{err_from_is_err_and}
+use Rattle.mm_load.specs.Asking.{Tells}
+use Rattle.mm_load.specs.Rules.{again, repeated_in, member_of, double_in_items}
+use Rattle.mm_load.specs.WrittenItem.{name_of, items_in}
+use Rattle.mm_parse.specs.declared.ast.Item.TheViews.{out-Item}
+use Rattle.mm_load.specs.declared.rule.Rule.TheVariants.{DoubleName}
+use Rattle.mm_load.proofs.AskingLemmas.{tells_here, tells_next, handed}
+use Rattle.mm_load.proofs.ItemLemmas.{tells_inside}
+use Rattle.mm_load.proofs.MemberLemmas.{names_more, members_kept, members_fault, members_all}
+use Rattle.mm_load.proofs.double_name.check.Goals as goal
+
+pub returns-in_err-check_name : goal.returns-in_err-check_name
+returns-in_err-check_name c =
+    let items = c.args.items.now in
+    let i = c.loop-item.item-index in
+    let x = c.item-item.result in
+    let keys = map (λ k. k.now) c.loop-item.seen.keys in
+    let within : i < length items = c.loop-item-test.true in
+    let at : x ≡ get_or items i x = c.item-item.is in
+    let e = c.in_err-check_name.field-0.0 in
+    let told = tells_here DoubleName (again keys (name_of x).text (name_of x).at) (member_of x).inside e (subst (λ name. Tells DoubleName (again keys name (name_of x).at) (Err e)) c.as_slice.ensures c.in_err-check_name.ensures.answer) in
+    handed DoubleName (double_in_items items) c.from_residual.result e (err_from_is_err_and c.from_residual.result c.from_residual.ensures.1) (members_fault items i x within at keys e c.loop-item.invariant.0 c.loop-item.invariant.1 told)
+
+pub returns-in_err-check_inside : goal.returns-in_err-check_inside
+returns-in_err-check_inside c =
+    let items = c.args.items.now in
+    let i = c.loop-item.item-index in
+    let x = c.item-item.result in
+    let keys = map (λ k. k.now) c.loop-item.seen.keys in
+    let within : i < length items = c.loop-item-test.true in
+    let at : x ≡ get_or items i x = c.item-item.is in
+    let e = c.in_err-check_inside.field-0.0 in
+    let name_told = subst (λ name. Tells DoubleName (again keys name (name_of x).at) (Ok tt)) c.as_slice.ensures c.in_ok-check_name.ensures.answer in
+    let told = tells_next DoubleName (again keys (name_of x).text (name_of x).at) (member_of x).inside tt (Err e) name_told c.in_err-check_inside.ensures in
+    handed DoubleName (double_in_items items) c.from_residual-in_err-check_inside.result e (err_from_is_err_and c.from_residual-in_err-check_inside.result c.from_residual-in_err-check_inside.ensures.1) (members_fault items i x within at keys e c.loop-item.invariant.0 c.loop-item.invariant.1 told)
+
+pub loop-item-preserved : goal.loop-item-preserved
+loop-item-preserved c =
+    let items = c.args.items.now in
+    let i = c.loop-item.item-index in
+    let x = c.item-item.result in
+    let keys = map (λ k. k.now) c.loop-item.seen.keys in
+    let within : i < length items = c.loop-item-test.true in
+    let at : x ≡ get_or items i x = c.item-item.is in
+    let name_told = subst (λ name. Tells DoubleName (again keys name (name_of x).at) (Ok tt)) c.as_slice.ensures c.in_ok-check_name.ensures.answer in
+    let told = tells_next DoubleName (again keys (name_of x).text (name_of x).at) (member_of x).inside tt (Ok tt) name_told c.in_ok-check_inside.ensures in (
+      names_more items i x within at keys _ c.loop-item.invariant.0 (c.in_ok-check_name.ensures.seen ∙ ap (λ name. keys ++ name ∷ []) c.as_slice.ensures),
+      members_kept items i x within at keys c.loop-item.invariant.0 c.loop-item.invariant.1 told,
+    )
+
+pub returns : goal.returns
+returns c = members_all c.args.items.now c.loop-item.item-index c.loop-item.invariant.1 (omega arith)

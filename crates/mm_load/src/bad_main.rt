@@ -1,0 +1,38 @@
+//! The function with which a run begins.
+ghost use Rattle.std.specs.Prelude.{◌≡◌, map};
+ghost use Rattle.mm_load.specs.Asking.{Tells};
+ghost use Rattle.mm_load.specs.Names.{leads};
+ghost use Rattle.mm_load.specs.Seen.{function_seen};
+ghost use Rattle.mm_load.specs.Rules.{is_bare, bad_main};
+ghost use Rattle.mm_load.specs.declared.rule.Rule.TheVariants.{BadMain};
+
+use crate::functions::{Defined, path_in};
+use crate::index::{Index, function_at};
+use crate::load_error::{LoadError, fault_if};
+use crate::rule::Rule;
+use mm_parse::ast;
+use std::alloc::Global;
+
+/// Whether a function has neither type parameters nor parameters.
+fn is_bare(function: &ast::Function) -> bool
+    ensures { result ≡ is_bare function.now }
+{
+    function.type_params.len() == 0 && function.params.len() == 0
+}
+
+/// Asks whether the crate has at its top a function `main` without type parameters and parameters.
+#[tactic(auto, unfolding(crate::specs::Rules::bad_main))]
+pub fn check(
+    alloc: Global,
+    paths: &Index<'_>,
+    functions: &[Defined<'_>],
+    tree: &ast::Crate,
+) -> Result<(), LoadError>
+    ensures { Tells BadMain (bad_main (leads paths.now) (map function_seen functions.now) tree.now) result }
+{
+    let path = path_in(alloc, tree.name.as_slice(), b"main")?;
+    match function_at(paths, functions, path.as_slice()) {
+        Some(main) => fault_if(!is_bare(main.function), Rule::BadMain, main.at),
+        None => Err(LoadError::Rule(Rule::BadMain, tree.at)),
+    }
+}

@@ -1,0 +1,186 @@
+//! The blocks of a program, made of those of its tree.
+ghost use Rattle.std.specs.Prelude.{◌≡◌, map, IfOk};
+ghost use Rattle.mm_load.specs.Meaning.{place_of_local, operand_of, op_of, rvalue_of, statement_of, arm_of, call_of, end_of, block_of};
+ghost use Rattle.mm_load.specs.Names.{leads};
+
+use crate::index::{Index, path_text};
+use crate::types::{load_types, place};
+use mm_collect::{Arm, Block, Call, End, Op, Operand, Place, Rvalue, Statement};
+use mm_parse::ast;
+use mm_terms::{DefId, NoMemory};
+use sqlite_items::Items;
+use std::alloc::Global;
+
+fn load_place(local: ast::Local) -> Place
+    ensures { result ≡ place_of_local local }
+{
+    Place {
+        local: local.number,
+    }
+}
+
+#[tactic(auto, unfolding(crate::specs::Meaning::operand_of))]
+fn load_operand(operand: ast::Operand) -> Operand
+    ensures { result ≡ operand_of operand }
+{
+    match operand {
+        ast::Operand::Copy(local) => Operand::Copy(load_place(local)),
+        ast::Operand::Move(local) => Operand::Move(load_place(local)),
+        ast::Operand::Number(number) => Operand::Num(number),
+        ast::Operand::Bool(truth) => Operand::Truth(truth),
+    }
+}
+
+fn load_operands(alloc: Global, operands: &[ast::Operand]) -> Result<Items<Operand>, NoMemory>
+    ensures { IfOk result (λ os. os ≡ map operand_of operands.now) }
+{
+    let mut loaded = Items::new(alloc);
+    for operand in operands {
+        loaded.push(load_operand(*operand))?;
+    }
+    Ok(loaded)
+}
+
+#[tactic(auto, unfolding(crate::specs::Meaning::op_of))]
+fn load_op(op: ast::Op) -> Op
+    ensures { result ≡ op_of op }
+{
+    match op {
+        ast::Op::Add => Op::Add,
+        ast::Op::Sub => Op::Sub,
+        ast::Op::Mul => Op::Mul,
+        ast::Op::Div => Op::Div,
+        ast::Op::Rem => Op::Rem,
+        ast::Op::Eq => Op::Eq,
+        ast::Op::Lt => Op::Lt,
+    }
+}
+
+#[tactic(auto, unfolding(crate::specs::Meaning::rvalue_of))]
+fn load_rvalue(rvalue: &ast::Rvalue) -> Rvalue
+    ensures { result ≡ rvalue_of rvalue.now }
+{
+    match rvalue {
+        ast::Rvalue::Use(operand) => Rvalue::Use(load_operand(*operand)),
+        ast::Rvalue::Not(operand) => Rvalue::Not(load_operand(*operand)),
+        ast::Rvalue::Binary(op, left, right) => {
+            Rvalue::Binary(load_op(*op), load_operand(*left), load_operand(*right))
+        }
+    }
+}
+
+#[tactic(auto, unfolding(crate::specs::Meaning::statement_of))]
+fn load_statement(statement: &ast::Statement) -> Statement
+    ensures { result ≡ statement_of statement.now }
+{
+    match statement {
+        ast::Statement::Set(local, rvalue) => {
+            Statement::Set(load_place(*local), load_rvalue(rvalue))
+        }
+        ast::Statement::Print(operand) => Statement::Print(load_operand(*operand)),
+    }
+}
+
+fn load_statements(
+    alloc: Global,
+    statements: &[ast::Statement],
+) -> Result<Items<Statement>, NoMemory>
+    ensures { IfOk result (λ ss. ss ≡ map statement_of statements.now) }
+{
+    let mut loaded = Items::new(alloc);
+    for statement in statements {
+        loaded.push(load_statement(statement))?;
+    }
+    Ok(loaded)
+}
+
+#[tactic(auto, unfolding(crate::specs::Meaning::arm_of))]
+fn load_arm(arm: ast::Arm) -> Arm
+    ensures { result ≡ arm_of arm }
+{
+    Arm {
+        number: arm.number,
+        label: arm.label.number,
+    }
+}
+
+fn load_arms(alloc: Global, arms: &[ast::Arm]) -> Result<Items<Arm>, NoMemory>
+    ensures { IfOk result (λ loaded. loaded ≡ map arm_of arms.now) }
+{
+    let mut loaded = Items::new(alloc);
+    for arm in arms {
+        loaded.push(load_arm(*arm))?;
+    }
+    Ok(loaded)
+}
+
+#[tactic(auto, unfolding(crate::specs::Meaning::call_of))]
+fn load_call(
+    alloc: Global,
+    paths: &Index<'_>,
+    scope: &Index<'_>,
+    call: &ast::Call,
+) -> Result<Call, NoMemory>
+    ensures { IfOk result (λ c. c ≡ call_of (leads paths.now) (leads scope.now) call.now) }
+{
+    let path = path_text(alloc, &call.callee)?;
+    Ok(Call {
+        place: load_place(call.place),
+        callee: DefId(place(paths, path.as_slice())),
+        args: load_types(alloc, scope, call.args.as_slice())?,
+        operands: load_operands(alloc, call.operands.as_slice())?,
+        target: call.target.number,
+    })
+}
+
+#[tactic(auto, unfolding(crate::specs::Meaning::end_of))]
+fn load_end(
+    alloc: Global,
+    paths: &Index<'_>,
+    scope: &Index<'_>,
+    end: &ast::End,
+) -> Result<End, NoMemory>
+    ensures { IfOk result (λ e. e ≡ end_of (leads paths.now) (leads scope.now) end.now) }
+{
+    match end {
+        ast::End::Return => Ok(End::Return),
+        ast::End::Unreachable => Ok(End::Unreachable),
+        ast::End::Goto(label) => Ok(End::Goto(label.number)),
+        ast::End::Switch(switch) => {
+            let operand = load_operand(switch.operand);
+            let arms = load_arms(alloc, switch.arms.as_slice())?;
+            Ok(End::Switch(operand, arms, switch.otherwise.number))
+        }
+        ast::End::Call(call) => Ok(End::Call(load_call(alloc, paths, scope, call)?)),
+    }
+}
+
+#[tactic(auto, unfolding(crate::specs::Meaning::block_of))]
+fn load_block(
+    alloc: Global,
+    paths: &Index<'_>,
+    scope: &Index<'_>,
+    block: &ast::Block,
+) -> Result<Block, NoMemory>
+    ensures { IfOk result (λ b. b ≡ block_of (leads paths.now) (leads scope.now) block.now) }
+{
+    Ok(Block {
+        statements: load_statements(alloc, block.statements.as_slice())?,
+        end: load_end(alloc, paths, scope, &block.end)?,
+    })
+}
+
+pub fn load_blocks(
+    alloc: Global,
+    paths: &Index<'_>,
+    scope: &Index<'_>,
+    blocks: &[ast::Block],
+) -> Result<Items<Block>, NoMemory>
+    ensures { IfOk result (λ bs. bs ≡ map (block_of (leads paths.now) (leads scope.now)) blocks.now) }
+{
+    let mut loaded = Items::new(alloc);
+    for block in blocks {
+        loaded.push(load_block(alloc, paths, scope, block)?)?;
+    }
+    Ok(loaded)
+}

@@ -1,0 +1,69 @@
+//! Names that stand twice.
+ghost use Rattle.std.specs.Prelude.{◌≡◌, [], ◌∷◌, ◌++◌, map, OnOk};
+ghost use Rattle.mm_load.specs.Asking.{Tells};
+ghost use Rattle.mm_load.specs.Rules.{again, repeated, repeated_in, member_of, double_in_items};
+ghost use Rattle.mm_load.specs.declared.rule.Rule.TheVariants.{DoubleName};
+
+use crate::load_error::{LoadError, fault_if};
+use crate::rule::Rule;
+use indexmap::IndexSet;
+use mm_lex::Place;
+use mm_parse::ast;
+use std::alloc::Global;
+
+/// Adds a name to those that were seen.
+fn check_name<'a>(seen: &mut IndexSet<&'a [u8]>, name: &'a [u8], at: Place) -> Result<(), LoadError>
+    ensures answer { Tells DoubleName (again (map (λ k. k.now) seen.old.keys) name.now at) result }
+    ensures seen { OnOk result (map (λ k. k.now) seen.new.keys ≡ map (λ k. k.now) seen.old.keys ++ name.now ∷ []) }
+{
+    let (_, is_new) = seen.insert_full(name)?;
+    fault_if(!is_new, Rule::DoubleName, at)
+}
+
+/// Asks whether these names differ.
+fn check_names(alloc: Global, names: &[ast::Name]) -> Result<(), LoadError>
+    ensures { Tells DoubleName (repeated names.now) result }
+{
+    let mut seen = IndexSet::new(alloc);
+    for name in names {
+        check_name(&mut seen, name.text.as_slice(), name.at)?;
+    }
+    Ok(())
+}
+
+/// Asks whether the type parameters of a function differ.
+#[tactic(auto, unfolding(crate::specs::Rules::repeated_in))]
+fn check_form(alloc: Global, form: &ast::Form) -> Result<(), LoadError>
+    ensures { Tells DoubleName (repeated_in form.now) result }
+{
+    match form {
+        ast::Form::Module => Ok(()),
+        ast::Form::Function(function) => check_names(alloc, function.type_params.as_slice()),
+    }
+}
+
+/// Asks whether the names inside an item differ: those of the type parameters of a function, and those of the items of
+/// a module, and of each module in it.
+fn check_inside(alloc: Global, item: &ast::Item) -> Result<(), LoadError>
+    ensures { Tells DoubleName (member_of item.now).inside result }
+{
+    check_form(alloc, &item.form)?;
+    let mut seen = IndexSet::new(alloc);
+    for inner in item.items.as_slice() {
+        check_name(&mut seen, inner.name.text.as_slice(), inner.name.at)?;
+        check_inside(alloc, inner)?;
+    }
+    Ok(())
+}
+
+/// Asks whether the names of the items of each module differ, and those of the type parameters of each function.
+pub fn check(alloc: Global, items: &[ast::Item]) -> Result<(), LoadError>
+    ensures { Tells DoubleName (double_in_items items.now) result }
+{
+    let mut seen = IndexSet::new(alloc);
+    for item in items {
+        check_name(&mut seen, item.name.text.as_slice(), item.name.at)?;
+        check_inside(alloc, item)?;
+    }
+    Ok(())
+}

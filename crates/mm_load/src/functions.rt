@@ -1,0 +1,76 @@
+//! The functions of a crate, in order of their first tokens.
+ghost use Rattle.std.specs.Prelude.{◌≡◌, ◌++◌, map, IfOk, OnOk};
+ghost use Rattle.mm_load.specs.Seen.{function_seen};
+ghost use Rattle.mm_load.specs.WrittenItem.{defined_by, functions_in, functions_of, path_in};
+
+use mm_lex::Place;
+use mm_parse::ast;
+use mm_terms::{NoMemory, Text};
+use std::alloc::Global;
+
+/// A function of a crate.
+#[derive(Debug, Drop)]
+pub struct Defined<'a> {
+    /// The crate's name, the modules' names and the function's own name, parted by `::`.
+    pub path: Text,
+    /// The place of its first token.
+    pub at: Place,
+    pub function: &'a ast::Function,
+}
+
+/// The path of what has a name in the module with a path.
+pub fn path_in(alloc: Global, front: &[u8], name: &[u8]) -> Result<Text, NoMemory>
+    ensures { IfOk result (λ path. path ≡ path_in front.now name.now) }
+{
+    let mut path = Vec::from_slice(alloc, front)?;
+    path.extend_from_slice(b"::")?;
+    path.extend_from_slice(name)?;
+    Ok(Text::from_vec(path))
+}
+
+/// Adds what has a path, where it is a function.
+fn add_function<'a>(
+    alloc: Global,
+    path: &[u8],
+    at: Place,
+    form: &'a ast::Form,
+    functions: &mut Vec<Defined<'a>>,
+) -> Result<(), NoMemory>
+    ensures { OnOk result (map function_seen functions.new.items ≡ map function_seen functions.old.items ++ defined_by path.now at form.now) }
+{
+    let ast::Form::Function(function) = form else {
+        return Ok(());
+    };
+    let path = Text::from_slice(alloc, path)?;
+    functions.push(Defined { path, at, function })?;
+    Ok(())
+}
+
+/// Adds the functions of an item that stands in the module with a path.
+fn add_functions<'a>(
+    alloc: Global,
+    front: &[u8],
+    item: &'a ast::Item,
+    functions: &mut Vec<Defined<'a>>,
+) -> Result<(), NoMemory>
+    ensures { OnOk result (map function_seen functions.new.items ≡ map function_seen functions.old.items ++ functions_in item.now front.now) }
+{
+    let path = path_in(alloc, front, item.name.text.as_slice())?;
+    add_function(alloc, path.as_slice(), item.at, &item.form, functions)?;
+    for inner in item.items.as_slice() {
+        add_functions(alloc, path.as_slice(), inner, functions)?;
+    }
+    Ok(())
+}
+
+/// The functions of a crate.
+#[tactic(auto, unfolding(crate::specs::WrittenItem::functions_of))]
+pub fn functions<'a>(alloc: Global, tree: &'a ast::Crate) -> Result<Vec<Defined<'a>>, NoMemory>
+    ensures { IfOk result (λ functions. map function_seen functions.items ≡ functions_of tree.now) }
+{
+    let mut functions = Vec::new(alloc);
+    for item in tree.items.as_slice() {
+        add_functions(alloc, tree.name.as_slice(), item, &mut functions)?;
+    }
+    Ok(functions)
+}

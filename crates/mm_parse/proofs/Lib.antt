@@ -1,0 +1,14 @@
+pub mod BodyReads
+pub mod EndReads
+pub mod Givens
+pub mod GrammarReads
+pub mod ItemReads
+pub mod Levels
+pub mod Loops
+pub mod NameReads
+pub mod OperandReads
+pub mod Readers
+pub mod StatementReads
+pub mod TokenCodes
+pub mod TokenReads
+pub mod TypeReads

@@ -1,9 +1,0 @@
-use Rattle.std.proofs.Common.{length}
-use Rattle.mm_tool.proofs.LexTextLaws.{IsReading}
-use Rattle.mm_tool.proofs.lex.scan.tokens.Given as goal
-
-abbrev pub invariant-loop-rest : goal.invariant-loop-rest
-invariant-loop-rest l = IsReading l.text l.at l.rest l.tokens.items
-
-abbrev pub decreases-loop-rest : goal.decreases-loop-rest
-decreases-loop-rest l = length l.rest

@@ -1,6 +1,0 @@
-use Rattle.std.proofs.Common.{◌≡◌, map, take}
-use Rattle.mm_tool.specs.Meaning.{arm_of}
-use Rattle.mm_tool.proofs.load.bodies.load_arms.Given as goal
-
-abbrev pub invariant-loop-arm : goal.invariant-loop-arm
-invariant-loop-arm l = l.loaded ≡ map arm_of (take l.arm-index l.arms)

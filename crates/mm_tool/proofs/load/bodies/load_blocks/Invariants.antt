@@ -1,7 +1,0 @@
-use Rattle.std.proofs.Common.{◌≡◌, map, take}
-use Rattle.mm_tool.specs.Names.{leads}
-use Rattle.mm_tool.specs.Meaning.{block_of}
-use Rattle.mm_tool.proofs.load.bodies.load_blocks.Given as goal
-
-abbrev pub invariant-loop-block : goal.invariant-loop-block
-invariant-loop-block l = l.loaded ≡ map (block_of (leads l.paths) (leads l.scope)) (take l.block-index l.blocks)

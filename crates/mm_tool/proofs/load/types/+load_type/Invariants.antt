@@ -1,8 +1,0 @@
-use Rattle.std.proofs.Common.{◌≡◌, map, take}
-use Rattle.mm_tool.specs.Names.{leads}
-use Rattle.mm_tool.specs.Meaning.{type_of}
-use Rattle.mm_tool.specs.WrittenType.{children_of}
-use Rattle.mm_tool.proofs.load.types.+load_type.Given as goal
-
-abbrev pub invariant-loop-child : goal.invariant-loop-child
-invariant-loop-child l = l.children.items ≡ map (type_of (leads l.scope)) (take l.child-index (children_of l.ty))

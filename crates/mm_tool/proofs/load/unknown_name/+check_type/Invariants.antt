@@ -1,9 +1,0 @@
-use Rattle.std.proofs.Common.{◌≡◌, [], take}
-use Rattle.std.specs.List.{flat_map}
-use Rattle.mm_tool.specs.Names.{leads}
-use Rattle.mm_tool.specs.Rules.{unknown_in_type}
-use Rattle.mm_tool.specs.WrittenType.{children_of}
-use Rattle.mm_tool.proofs.load.unknown_name.+check_type.Given as goal
-
-abbrev pub invariant-loop-child : goal.invariant-loop-child
-invariant-loop-child l = flat_map (unknown_in_type (leads l.scope)) (take l.child-index (children_of l.ty)) ≡ []

@@ -1,9 +1,0 @@
-use Rattle.std.proofs.Common.{◌≡◌, [], map, take}
-use Rattle.std.specs.List.{flat_map}
-use Rattle.mm_tool.specs.Names.{leads}
-use Rattle.mm_tool.specs.Rules.{misfits_in_function}
-use Rattle.mm_tool.specs.Seen.{function_seen}
-use Rattle.mm_tool.proofs.load.wrong_arity.check.Given as goal
-
-abbrev pub invariant-loop-function : goal.invariant-loop-function
-invariant-loop-function l = flat_map (λ d. misfits_in_function (leads l.paths) (map function_seen l.functions) d.function) (map function_seen (take l.function-index l.functions)) ≡ []

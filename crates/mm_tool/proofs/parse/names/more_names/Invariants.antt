@@ -1,7 +1,0 @@
-use Rattle.std.proofs.Common.{◌≡◌, ◌-◌, length}
-use Rattle.mm_tool.specs.Parsing.{next_name_in, starts_next}
-use Rattle.mm_tool.specs.Reading.{each_in, first_in, with_front}
-use Rattle.mm_tool.proofs.parse.names.more_names.Given as goal
-
-abbrev pub invariant-each : goal.invariant-each
-invariant-each l = first_in starts_next next_name_in l.fn.first l.tokens ≡ with_front l.names (each_in starts_next next_name_in (length l.tokens - l.place) l.place l.rest)

@@ -1,6 +1,0 @@
--- What contracts see of the functions that a crate is flattened to: what is referred to, and not where it lies.
-use Rattle.mm_tool.specs.declared.load.functions.Defined as defined
-use Rattle.mm_tool.specs.WrittenItem.{Defined}
-
-abbrev pub function_seen : defined.Defined → Defined
-function_seen d = record { path = d.path; at = d.at; function = d.function.now }

@@ -70,6 +70,17 @@ fn texts(rt: HostRuntime) -> Result<(), Fail> {
         ("crate app; fn f() { bb0: { return } } }", false),
         ("crate app; fn f() { bb0: { return return } }", false),
         ("crate app; fn f() { bb0: { return }", false),
+    ];
+    for (text, read) in rows {
+        assert_eq!(rt; is_text(alloc, text)?, read, "{text}");
+    }
+    Ok(())
+}
+
+#[test]
+fn modules(rt: HostRuntime) -> Result<(), Fail> {
+    let alloc = rt.alloc();
+    let rows = [
         ("crate app; mod m { }", true),
         (
             "crate app; mod m { fn f() { bb0: { return } } mod n { } } fn f() { bb0: { return } }",
@@ -206,53 +217,65 @@ fn bodies(rt: HostRuntime) -> Result<(), Fail> {
 fn statements(rt: HostRuntime) -> Result<(), Fail> {
     let alloc = rt.alloc();
     let rows = [
-        ("_0 = 5;", true),
-        ("_0 = copy _1;", true),
-        ("_0 = move _1;", true),
-        ("_0 = true;", true),
-        ("_65535 = false;", true),
-        ("_1 = not(copy _2);", true),
-        ("_1 = add(copy _1, 2);", true),
-        ("_1 = sub(copy _1, move _2);", true),
-        ("_1 = mul(3, 2);", true),
-        ("_1 = div(3, 0);", true),
-        ("_1 = rem(3, 2);", true),
-        ("_1 = eq(true, 2);", true),
-        ("_1 = lt(1, false);", true),
-        ("print copy _1;", true),
-        ("print 7;", true),
-        ("_1 = 1; print copy _1; _1 = 2;", true),
-        ("_0 = 5", false),
-        ("print 7", false),
-        ("print 7 print 8;", false),
-        ("_0 = 5;;", false),
-        (";", false),
-        ("_0 5;", false),
-        ("_0 = ;", false),
-        ("= 5;", false),
-        ("bb0 = 5;", false),
-        ("copy _0 = 5;", false),
-        ("_0 = _1;", false),
-        ("_0 = add(1);", false),
-        ("_0 = add(1,);", false),
-        ("_0 = add(1, 2, 3);", false),
-        ("_0 = add(1 2);", false),
-        ("_0 = add 1, 2;", false),
-        ("_0 = add(add(1, 2), 3);", false),
-        ("_0 = not();", false),
-        ("_0 = not(1, 2);", false),
-        ("_0 = not 1;", false),
-        ("_0 = ne(1, 2);", false),
-        ("print;", false),
-        ("print _1;", false),
-        ("print not(1);", false),
-        ("let _1: u64;", false),
-        ("call _0 = app::f() -> bb0;", false),
-        ("return; _0 = 5;", false),
+        "_0 = 5;",
+        "_0 = copy _1;",
+        "_0 = move _1;",
+        "_0 = true;",
+        "_65535 = false;",
+        "_1 = not(copy _2);",
+        "_1 = add(copy _1, 2);",
+        "_1 = sub(copy _1, move _2);",
+        "_1 = mul(3, 2);",
+        "_1 = div(3, 0);",
+        "_1 = rem(3, 2);",
+        "_1 = eq(true, 2);",
+        "_1 = lt(1, false);",
+        "print copy _1;",
+        "print 7;",
+        "_1 = 1; print copy _1; _1 = 2;",
     ];
-    for (statements, read) in rows {
+    for statements in rows {
         let block = format!(in alloc; "{statements} return")?;
-        assert_eq!(rt; is_block(alloc, &block)?, read, "{statements}");
+        assert!(rt; is_block(alloc, &block)?, "{statements}");
+    }
+    Ok(())
+}
+
+#[test]
+fn faulty_statements(rt: HostRuntime) -> Result<(), Fail> {
+    let alloc = rt.alloc();
+    let rows = [
+        "_0 = 5",
+        "print 7",
+        "print 7 print 8;",
+        "_0 = 5;;",
+        ";",
+        "_0 5;",
+        "_0 = ;",
+        "= 5;",
+        "bb0 = 5;",
+        "copy _0 = 5;",
+        "_0 = _1;",
+        "_0 = add(1);",
+        "_0 = add(1,);",
+        "_0 = add(1, 2, 3);",
+        "_0 = add(1 2);",
+        "_0 = add 1, 2;",
+        "_0 = add(add(1, 2), 3);",
+        "_0 = not();",
+        "_0 = not(1, 2);",
+        "_0 = not 1;",
+        "_0 = ne(1, 2);",
+        "print;",
+        "print _1;",
+        "print not(1);",
+        "let _1: u64;",
+        "call _0 = app::f() -> bb0;",
+        "return; _0 = 5;",
+    ];
+    for statements in rows {
+        let block = format!(in alloc; "{statements} return")?;
+        assert!(rt; !is_block(alloc, &block)?, "{statements}");
     }
     Ok(())
 }

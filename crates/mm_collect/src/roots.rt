@@ -1,4 +1,4 @@
-ghost use Rattle.std.specs.Prelude.{◌≡◌, ℕ, ◌<◌, ◌||◌, List, ◌++◌, length, get_or, nat_eq, false, IfOk};
+ghost use Rattle.std.specs.Prelude.{◌≡◌, ◌<◌, ◌||◌, List, ◌++◌, length, false, IfOk};
 ghost use Rattle.mm_collect.specs.declared.program.Call.{Call};
 ghost use Rattle.mm_collect.specs.Roots;
 ghost use Rattle.mm_collect.specs.Roots.{is_named, generic_calls, roots_of, AreMarks};

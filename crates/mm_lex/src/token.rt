@@ -1,5 +1,5 @@
 ghost use Rattle.std.specs.Prelude.{◌≡◌, ◌≤◌, ◌<◌, ◌+◌, ◌^◌, length, fold};
-ghost use Rattle.mm_lex.specs.LexText.{past, text_start};
+ghost use Rattle.mm_lex.specs.LexText.{past};
 
 use crate::mark::Mark;
 use crate::word::Word;

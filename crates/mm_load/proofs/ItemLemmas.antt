@@ -1,13 +1,12 @@
 -- What is said of an item, part by part.
-use Rattle.std.proofs.Common.{◌≡◌, ℕ, List, [], ◌∷◌, ◌++◌, map, Result, refl, sym, ◌∙◌, ap, subst}
+use Rattle.std.proofs.Common.{◌≡◌, ℕ, List, ◌++◌, map, Result, sym, ◌∙◌, ap, subst}
 use Rattle.std.specs.List.{flat_map}
 use Rattle.mm_parse.specs.declared.ast.Item.{Item}
 use Rattle.mm_parse.specs.declared.ast.Item.TheViews.{out-Item}
-use Rattle.mm_parse.specs.declared.ast.Name.{Name}
 use Rattle.mm_load.specs.declared.load_error.LoadError.{LoadError}
 use Rattle.mm_load.specs.declared.rule.Rule.{Rule}
 use Rattle.mm_load.specs.Asking.{Tells}
-use Rattle.mm_load.specs.Rules.{again, repeated_in, Member, member_of, double_among}
+use Rattle.mm_load.specs.Rules.{again, repeated_in, member_of, double_among}
 use Rattle.mm_load.proofs.AskingLemmas.{flat_map-map}
 use Rattle.mm_load.specs.WrittenItem.{Defined, name_of, items_in, path_in, defined_by, functions_in, item_fold-parts}
 

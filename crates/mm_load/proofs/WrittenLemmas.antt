@@ -1,5 +1,5 @@
 -- What is asked of a written type, part by part.
-use Rattle.std.proofs.Common.{◌≡◌, ℕ, zero, suc, ◌+◌, ◌<◌, ◌≤◌, length, sum, take, get_or, arith, List, [], ◌∷◌, ◌++◌, map, Result, refl, sym, ◌∙◌, ap, subst}
+use Rattle.std.proofs.Common.{◌≡◌, ℕ, zero, suc, ◌+◌, ◌<◌, ◌≤◌, length, sum, take, get_or, arith, List, [], ◌∷◌, ◌++◌, map, Result, sym, ◌∙◌, ap, subst}
 use Rattle.std.proofs.lemmas.List.Sums.{sum_by-cons}
 use Rattle.std.specs.List.{flat_map}
 use Rattle.mm_terms.specs.Tree.{node}

@@ -1,8 +1,8 @@
-ghost use Rattle.std.specs.Prelude.{◌≡◌, ℕ, List, [], ◌∷◌, map, cond, Some, None, IfOk, OnOk};
+ghost use Rattle.std.specs.Prelude.{◌≡◌, ℕ, List, map, cond, Some, None, IfOk, OnOk};
 ghost use Rattle.std.specs.Option.{option_map, option_or};
 ghost use Rattle.std.specs.Str.{bytes_eq};
 ghost use Rattle.mm_load.specs.Rules.{function_at};
-ghost use Rattle.mm_load.specs.Names.{joined, leads, names_in, path_named, place_of};
+ghost use Rattle.mm_load.specs.Names.{leads, names_in, path_named};
 ghost use Rattle.mm_load.specs.Seen.{function_seen};
 ghost use Rattle.mm_load.specs.WrittenItem.{paths_to};
 

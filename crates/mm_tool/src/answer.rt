@@ -1,6 +1,5 @@
 ghost use Rattle.std.specs.Prelude.{◌≡◌, ℕ, List, ◌++◌, ◌≤◌, length, codes, decimal, IfOk};
 ghost use Rattle.mm_collect.specs.declared.program.Program.{Program};
-ghost use Rattle.mm_tool.specs.Listing.{IsListing};
 ghost use Rattle.mm_tool.specs.Report.{Means, IsVerdict, IsAnswer, line};
 
 use crate::listing::list_items;

@@ -1,12 +1,10 @@
 use Rattle.std.proofs.Common.{◌≡◌, ◌<◌, ◌∷◌, [], ◌++◌, Ok, Err, length, map, get_or, ◌∙◌, ap, subst, arith}
 use Rattle.std.proofs.lemmas.Result.{err_from_is_err_and}
 use Rattle.mm_load.specs.Asking.{Tells}
-use Rattle.mm_load.specs.Rules.{again, repeated_in, member_of, double_in_items}
-use Rattle.mm_load.specs.WrittenItem.{name_of, items_in}
-use Rattle.mm_parse.specs.declared.ast.Item.TheViews.{out-Item}
+use Rattle.mm_load.specs.Rules.{again, member_of, double_in_items}
+use Rattle.mm_load.specs.WrittenItem.{name_of}
 use Rattle.mm_load.specs.declared.rule.Rule.TheVariants.{DoubleName}
 use Rattle.mm_load.proofs.AskingLemmas.{tells_here, tells_next, handed}
-use Rattle.mm_load.proofs.ItemLemmas.{tells_inside}
 use Rattle.mm_load.proofs.MemberLemmas.{names_more, members_kept, members_fault, members_all}
 use Rattle.mm_load.proofs.double_name.check.Goals as goal
 

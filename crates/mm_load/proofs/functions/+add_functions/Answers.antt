@@ -1,4 +1,4 @@
-use Rattle.std.proofs.Common.{◌≡◌, ◌++◌, map, length, sym, ◌∙◌, ap, arith}
+use Rattle.std.proofs.Common.{◌++◌, map, length, sym, ◌∙◌, ap, arith}
 use Rattle.std.proofs.lemmas.List.{take_all, append_assoc}
 use Rattle.std.specs.List.{flat_map}
 use Rattle.mm_load.specs.Seen.{function_seen}

@@ -1,5 +1,5 @@
 -- Which options words give, and that they mean one command.
-use Rattle.std.proofs.Common.{◌≡◌, ℕ, zero, suc, ◌^◌, ◌<◌, ◌≤◌, ◌+◌, inl, inr, cond, eqb, nat_eq, not, false, List, [], ◌∷◌, ◌++◌, map, length, get_or, take, drop, Bor, Some, None, refl, sym, ap, ◌∙◌, subst, arith, codes}
+use Rattle.std.proofs.Common.{◌≡◌, ℕ, zero, suc, ◌^◌, ◌<◌, ◌≤◌, ◌+◌, ◌⊎◌, inl, inr, cond, eqb, nat_eq, not, false, List, [], ◌∷◌, ◌++◌, map, length, get_or, take, drop, Bor, Some, None, refl, sym, ap, ◌∙◌, subst, arith, codes}
 use Rattle.std.specs.declared.option.Option.{Option}
 use Rattle.std.specs.Prelude.{IsPermutation, decimal, unwrap_or}
 use Rattle.std.specs.List.{Contains, sum_by}

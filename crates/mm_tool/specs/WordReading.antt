@@ -1,5 +1,5 @@
 -- The words, as they are read one by one.
-use Rattle.std.specs.Prelude.{◌≡◌, ℕ, ◌≤◌, ◌⊎◌, List, ◌++◌, IsPermutation, codes, decimal}
+use Rattle.std.specs.Prelude.{◌≡◌, ℕ, ◌≤◌, ◌⊎◌, List, ◌++◌, Some, None, IsPermutation, codes, decimal}
 use Rattle.mm_tool.specs.declared.words.Given.{Given}
 use Rattle.mm_tool.specs.Words.{option_words, IsUpTo}
 

@@ -1,0 +1,3 @@
+pub mod SymTree
+pub mod SymbolText
+pub mod SymbolForms

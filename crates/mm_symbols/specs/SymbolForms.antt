@@ -35,36 +35,37 @@ unfoldable pub IsWithin : ℕ → SymType → Type 0
 IsWithin zero t = ⊥
 IsWithin (suc levels) t = IsHead (sym_head t) (length (sym_children t)) × All (IsWithin levels) (sym_children t)
 
--- types nest at most 4,096 deep
-abbrev pub IsType : SymType → Type 0
-IsType = IsWithin 4096
-
 -- `Drop` and `drop` are words, and no names: they stand in symbols only together, as the trait and the method of an impl of `Drop`
 abbrev pub IsDrop : List (List ℕ) → List ℕ → Type 0
 IsDrop tr name = (tr ≡ codes "Drop" ∷ []) × (name ≡ codes "drop")
 
-pub record IsMethod (m : SymMethod) : Type 0 where
-  pub target : IsType m.target
+-- a method, the types of which nest no deeper than so many levels
+pub record IsMethod (levels : ℕ) (m : SymMethod) : Type 0 where
+  pub target : IsWithin levels m.target
   pub named : (IsPath m.tr × IsName m.name) ⊎ IsDrop m.tr m.name
-  pub args : All IsType m.args
-  pub own : All IsType m.own
+  pub args : All (IsWithin levels) m.args
+  pub own : All (IsWithin levels) m.own
 
-abbrev pub IsItem : SymItem → Type 0
-IsItem (items.Fn names types) = IsPath names × All IsType types
-IsItem (items.Closure names types) = IsPath names × All IsType types
-IsItem (items.Method m) = IsMethod m
-IsItem (items.Glue type') = IsType type'
-IsItem (items.Shim type') = IsType type'
-IsItem (items.Static names) = IsPath names
+abbrev pub IsItem : ℕ → SymItem → Type 0
+IsItem levels (items.Fn names types) = IsPath names × All (IsWithin levels) types
+IsItem levels (items.Closure names types) = IsPath names × All (IsWithin levels) types
+IsItem levels (items.Method m) = IsMethod levels m
+IsItem levels (items.Glue type') = IsWithin levels type'
+IsItem levels (items.Shim type') = IsWithin levels type'
+IsItem levels (items.Static names) = IsPath names
 
 abbrev pub IsKrate : Option (List ℕ) → Type 0
 IsKrate None = ⊤
 IsKrate (Some name) = IsName name
 
--- the form of a symbol
-pub record IsForm (form : SymbolForm) : Type 0 where
-  pub item : IsItem form.item
+-- a form, the types of which nest no deeper than so many levels
+pub record IsFormWithin (levels : ℕ) (form : SymbolForm) : Type 0 where
+  pub item : IsItem levels form.item
   pub krate : IsKrate form.krate
+
+-- the form of a symbol: types nest at most 4,096 deep
+abbrev pub IsForm : SymbolForm → Type 0
+IsForm = IsFormWithin 4096
 
 -- the bytes are the symbol of this form
 pub record IsSymbolOf (form : SymbolForm) (bytes : List ℕ) : Type 0 where

@@ -1,0 +1,7 @@
+//! Symbols: the names by which objects refer to mono items.
+#![tactic(auto)]
+
+mod form;
+mod writing;
+
+pub use form::{Segs, SymHead, SymItem, SymMethod, SymType, SymTypes, SymbolForm};

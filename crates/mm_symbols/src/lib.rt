@@ -2,6 +2,7 @@
 #![tactic(auto)]
 
 mod form;
+mod pieces;
 mod writing;
 
 pub use form::{Segs, SymHead, SymItem, SymMethod, SymType, SymTypes, SymbolForm};

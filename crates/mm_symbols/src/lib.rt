@@ -3,6 +3,7 @@
 
 mod form;
 mod pieces;
+mod types;
 mod writing;
 
 pub use form::{Segs, SymHead, SymItem, SymMethod, SymType, SymTypes, SymbolForm};

@@ -1,6 +1,5 @@
 ghost use Rattle.std.specs.Prelude.{length};
-ghost use Rattle.mm_symbols.specs.declared.form.SymHead.TheVariants.{FnItem, Closure, Dyn, Adt};
-ghost use Rattle.mm_symbols.specs.Reading.{Gives, each_in, until_end, args_in, named_in, tuple_in, single_in, signature_in, defined_in, shape_in, node_in, within_in};
+ghost use Rattle.mm_symbols.specs.Reading.{Gives, each_in, until_end, args_in, named_in, tuple_in, single_in, signature_in, shape_in, node_in, within_in};
 
 use crate::form::{Segs, SymHead, SymType, SymTypes};
 use crate::pieces::{past, path, starts};
@@ -31,7 +30,7 @@ fn node(alloc: Global, levels: u32, bytes: &[u8]) -> Result<(SymType, &[u8]), Te
 
 /// The head of a type and the types below it, which nest no deeper than so many levels.
 #[cycle(types)]
-#[tactic(auto, unfolding(crate::specs::Reading::shape_in))]
+#[tactic(auto, unfolding(crate::specs::Reading::shape_in, crate::specs::Reading::defined_in))]
 fn shape(
     alloc: Global,
     levels: u32,
@@ -49,10 +48,22 @@ fn shape(
         b'R' => single(alloc, SymHead::Ref, levels, rest),
         b'B' => single(alloc, SymHead::Boxed, levels, rest),
         b'P' => signature(alloc, levels, rest),
-        b'G' => fn_item(alloc, levels, rest),
-        b'C' => closure(alloc, levels, rest),
-        b'D' => dyn_trait(alloc, levels, rest),
-        b'A' => adt(alloc, levels, rest),
+        b'G' => {
+            let ((names, args), rest) = named(alloc, levels, rest)?;
+            Ok(((SymHead::FnItem(names), args), rest))
+        }
+        b'C' => {
+            let ((names, args), rest) = named(alloc, levels, rest)?;
+            Ok(((SymHead::Closure(names), args), rest))
+        }
+        b'D' => {
+            let ((names, args), rest) = named(alloc, levels, rest)?;
+            Ok(((SymHead::Dyn(names), args), rest))
+        }
+        b'A' => {
+            let ((names, args), rest) = named(alloc, levels, rest)?;
+            Ok(((SymHead::Adt(names), args), rest))
+        }
         _ => Err(TextError::BadText),
     }
 }
@@ -105,58 +116,6 @@ fn signature(
     let (result, rest) = within(alloc, levels, rest)?;
     children.push(result)?;
     Ok(((SymHead::FnPtr, children), rest))
-}
-
-#[cycle(types)]
-#[tactic(auto, unfolding(crate::specs::Reading::defined_in))]
-fn fn_item(
-    alloc: Global,
-    levels: u32,
-    bytes: &[u8],
-) -> Result<((SymHead, SymTypes), &[u8]), TextError>
-    ensures { Gives (λ x. (x.0, x.1.now)) result (defined_in FnItem (within_in levels) bytes.now) }
-{
-    let ((names, args), rest) = named(alloc, levels, bytes)?;
-    Ok(((SymHead::FnItem(names), args), rest))
-}
-
-#[cycle(types)]
-#[tactic(auto, unfolding(crate::specs::Reading::defined_in))]
-fn closure(
-    alloc: Global,
-    levels: u32,
-    bytes: &[u8],
-) -> Result<((SymHead, SymTypes), &[u8]), TextError>
-    ensures { Gives (λ x. (x.0, x.1.now)) result (defined_in Closure (within_in levels) bytes.now) }
-{
-    let ((names, args), rest) = named(alloc, levels, bytes)?;
-    Ok(((SymHead::Closure(names), args), rest))
-}
-
-#[cycle(types)]
-#[tactic(auto, unfolding(crate::specs::Reading::defined_in))]
-fn dyn_trait(
-    alloc: Global,
-    levels: u32,
-    bytes: &[u8],
-) -> Result<((SymHead, SymTypes), &[u8]), TextError>
-    ensures { Gives (λ x. (x.0, x.1.now)) result (defined_in Dyn (within_in levels) bytes.now) }
-{
-    let ((names, args), rest) = named(alloc, levels, bytes)?;
-    Ok(((SymHead::Dyn(names), args), rest))
-}
-
-#[cycle(types)]
-#[tactic(auto, unfolding(crate::specs::Reading::defined_in))]
-fn adt(
-    alloc: Global,
-    levels: u32,
-    bytes: &[u8],
-) -> Result<((SymHead, SymTypes), &[u8]), TextError>
-    ensures { Gives (λ x. (x.0, x.1.now)) result (defined_in Adt (within_in levels) bytes.now) }
-{
-    let ((names, args), rest) = named(alloc, levels, bytes)?;
-    Ok(((SymHead::Adt(names), args), rest))
 }
 
 /// A path and arguments.

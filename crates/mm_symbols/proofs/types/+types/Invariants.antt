@@ -27,18 +27,6 @@ decreases-single l = 9 * l.levels + 5
 abbrev pub decreases-signature : goal.decreases-signature
 decreases-signature l = 9 * l.levels + 5
 
-abbrev pub decreases-fn_item : goal.decreases-fn_item
-decreases-fn_item l = 9 * l.levels + 5
-
-abbrev pub decreases-closure : goal.decreases-closure
-decreases-closure l = 9 * l.levels + 5
-
-abbrev pub decreases-dyn_trait : goal.decreases-dyn_trait
-decreases-dyn_trait l = 9 * l.levels + 5
-
-abbrev pub decreases-adt : goal.decreases-adt
-decreases-adt l = 9 * l.levels + 5
-
 abbrev pub decreases-shape : goal.decreases-shape
 decreases-shape l = 9 * l.levels + 6
 

@@ -2,6 +2,8 @@
 #![tactic(auto)]
 
 mod form;
+mod pieces;
+mod types;
 mod writing;
 
 pub use form::{Segs, SymHead, SymItem, SymMethod, SymType, SymTypes, SymbolForm};

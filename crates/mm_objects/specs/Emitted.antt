@@ -1,8 +1,8 @@
 -- What a program is compiled to: each item becomes a definition, with its types put in and each callee by its symbol.
-use Rattle.std.specs.Prelude.{◌≡◌, ℕ, List, [], ◌∷◌, ◌++◌, length, map, flat_map, slice_get, codes, Option, None, Some, Contains}
-use Rattle.std.specs.List.Sorted.{IsPermutation, IsSorted}
+use Rattle.std.specs.Prelude.{◌≡◌, ℕ, List, [], ◌∷◌, ◌++◌, length, map, flat_map, slice_get, codes, Option, None, Some, ⊤, Contains}
+use Rattle.std.specs.List.Sorted.{IsPermutation, IsSortedByKey}
 use Rattle.std.specs.Cmp.Lexicographic.{slice_cmp}
-use Rattle.std.specs.Ordering.{nat_cmp, on}
+use Rattle.std.specs.Ordering.{nat_cmp}
 use Rattle.mm_terms.specs.declared.tree.Tree.{Tree}
 use Rattle.mm_terms.specs.declared.item.Item.{Item}
 use Rattle.mm_terms.specs.declared.item.Item.TheVariants.{Fn, Glue, Shim, Static}
@@ -40,7 +40,7 @@ use Rattle.mm_objects.specs.declared.objects.ObjEnd.{ObjEnd}
 use Rattle.mm_objects.specs.declared.objects.ObjEnd.TheVariants as end
 use Rattle.mm_objects.specs.declared.objects.Linkage.{Linkage}
 use Rattle.mm_objects.specs.declared.objects.Linkage.TheVariants.{External}
-use Rattle.mm_objects.specs.Resolution.{Placed, placed, resolve}
+use Rattle.mm_objects.specs.Resolution.{Placed, placed, resolve, symbol_of}
 
 -- the symbol of an item
 abbrev pub item_symbol : Program → Item → List ℕ
@@ -98,23 +98,26 @@ pub record Share : Type 0 where
   pub name : List ℕ
   pub items : List (Item × Linkage)
 
-abbrev pub unit_of : Program → Share → ObjUnit
-unit_of p share = record { name = share.name; defs = map (λ one. def_of p one.1 one.0) share.items }
+-- a unit has a definition of each of its items, in the order of the bytes of their symbols
+pub record IsUnitOf (p : Program) (share : Share) (unit : ObjUnit) : Type 0 where
+  pub name : unit.name ≡ share.name
+  pub of_items : IsPermutation (map (λ one. def_of p one.1 one.0) share.items) unit.defs
+  pub sorted : IsSortedByKey symbol_of (slice_cmp nat_cmp) unit.defs
 
--- the objects of a program's items, unit by unit
-abbrev pub objects_of : Program → List Share → Objects
-objects_of p shares = record { main = item_symbol p (item_of p.main.0); units = map (unit_of p) shares }
+-- units of shares, one for each in order
+abbrev pub AreUnitsOf : Program → List Share → List ObjUnit → Type 0
+AreUnitsOf p [] [] = ⊤
+AreUnitsOf p (share ∷ shares) (unit ∷ units) = IsUnitOf p share unit × AreUnitsOf p shares units
+AreUnitsOf p _ _ = ⊥
 
--- the one unit of the crate: `<crate>/<crate>.stable`, where every definition is External
+-- the objects of a program whose items are shared out so
+pub record AreObjectsOf (p : Program) (shares : List Share) (objects : Objects) : Type 0 where
+  pub main : objects.main ≡ item_symbol p (item_of p.main.0)
+  pub units : AreUnitsOf p shares objects.units
+
+-- all items in one unit, `<crate>/<crate>.stable`, where every definition is External
 abbrev pub whole_crate : Program → List Item → Share
 whole_crate p items = record { name = p.krate ++ codes "/" ++ p.krate ++ codes ".stable"; items = map (λ x. (x, External)) items }
-
--- the objects of the items in one unit, by the bytes of their symbols
-pub record AreObjectsOf (p : Program) (items : List Item) (objects : Objects) : Type 0 where
-  pub order : List Item
-  pub of_items : IsPermutation items order
-  pub sorted : IsSorted (on (item_symbol p) (slice_cmp nat_cmp)) order
-  pub are : objects ≡ objects_of p (whole_crate p order ∷ [])
 
 -- ---- references
 

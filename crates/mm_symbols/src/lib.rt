@@ -3,7 +3,9 @@
 
 mod form;
 mod pieces;
+mod stub;
 mod types;
 mod writing;
 
+pub use stub::symbol;
 pub use form::{Segs, SymHead, SymItem, SymMethod, SymType, SymTypes, SymbolForm};

@@ -1,1 +1,2 @@
 pub mod OneUnit
+pub mod References

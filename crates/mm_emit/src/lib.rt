@@ -4,5 +4,6 @@
 mod bodies;
 mod definitions;
 mod emission;
+pub mod laws;
 
 pub use emission::emit_one;

@@ -133,6 +133,14 @@ pub record Resolves (p : Program) (items : List Item) (units : List ObjUnit) (un
   pub there : resolve units unit (item_symbol p x) ≡ Some found
   pub of_item : IsOf p items x found.def
 
+-- no two of the items have one symbol
+abbrev pub HaveOwnSymbols : Program → List Item → Type 0
+HaveOwnSymbols p items = (x y : Item) → Contains items x → Contains items y → item_symbol p x ≡ item_symbol p y → x ≡ y
+
+-- what these items use is among them
+abbrev pub UseThemselves : Program → List Item → Type 0
+UseThemselves p items = (x y : Item) → Contains items x → Contains (candidates_of p x) y → Contains items y
+
 -- each reference, in each definition that is of some item, names a definition of the item that is used there
 abbrev pub AllResolve : Program → List Item → List ObjUnit → Type 0
 AllResolve p items units = (one : Placed) (x y : Item) → Contains (placed units) one → IsOf p items x one.def → Contains (candidates_of p x) y → Resolves p items units one.unit y

@@ -1,0 +1,227 @@
+-- Each reference names a definition of the item that is used there.
+use Rattle.std.proofs.Common.{◌≡◌, ℕ, zero, suc, ◌+◌, ◌<◌, ◌⊎◌, inl, inr, cond, ◌&&◌, ◌==◌, Bool, true, false, List, [], ◌∷◌, ◌++◌, map, length, get_or, flat_map, Some, None, refl, sym, ap, ◌∙◌, subst, arith}
+use Rattle.std.proofs.lemmas.Bool.{false≢true}
+use Rattle.std.specs.declared.option.Option.{Option}
+use Rattle.std.specs.Prelude.{Contains, unwrap_or, slice_get}
+use Rattle.std.proofs.lemmas.Option.{none-some}
+use Rattle.std.specs.List.{enumerate_from, find}
+use Rattle.std.specs.List.Sorted.{IsPermutation}
+use Rattle.std.specs.Option.{option_or}
+use Rattle.std.specs.Str.{bytes_eq}
+use Rattle.std.proofs.lemmas.List.Elements.{Contains-append_left, Contains-append_right, Contains-append_cases}
+use Rattle.std.proofs.lemmas.List.Sorted.{Contains-permutation, IsPermutation-sym}
+use Rattle.std.proofs.lemmas.Slice.Eq.{bytes_eq-Decides}
+use Rattle.mm_terms.specs.declared.tree.Tree.{Tree}
+use Rattle.mm_terms.specs.declared.item.Item.{Item}
+use Rattle.mm_terms.specs.declared.item.Item.TheVariants.{Fn, Glue, Shim, Static}
+use Rattle.mm_collect.specs.declared.program.Program.{Program}
+use Rattle.mm_collect.specs.declared.program.Function.{Function}
+use Rattle.mm_collect.specs.Roots.{item_of}
+use Rattle.mm_objects.specs.declared.objects.Objects.{Objects}
+use Rattle.mm_objects.specs.declared.objects.ObjUnit.{ObjUnit}
+use Rattle.mm_objects.specs.declared.objects.ObjDef.{ObjDef}
+use Rattle.mm_objects.specs.declared.objects.Linkage.{Linkage}
+use Rattle.mm_objects.specs.declared.objects.Linkage.TheVariants.{External}
+use Rattle.mm_objects.specs.Resolution.{Placed, placed, placed_in, resolve, is_own, is_shared, is_external, defines, symbol_of, link_of}
+use Rattle.mm_objects.specs.Emitted.{AreObjectsOf, AllResolve, HaveOwnSymbols, IsOf, IsUnitOf, Resolves, Share, UseThemselves, AreUnitsOf, code_of, def_of, item_symbol, whole_crate}
+
+-- ---- lists
+
+module _ {X : Type 0} where
+  only_at : (k : ℕ) (x y : X) → k < 1 → get_or (x ∷ []) k y ≡ y → y ≡ x
+  only_at zero x y within is = sym is
+  only_at (suc k) x y within is = absurd (omega (arith, within))
+
+  only : (x y : X) → Contains (x ∷ []) y → y ≡ x
+  only x y here = only_at here.0 x y here.1 here.2
+
+  either : (x : X) (xs : List X) (y : X) → Contains (x ∷ []) y ⊎ Contains xs y → (y ≡ x) ⊎ Contains xs y
+  either x xs y (inl first) = inl (only x y first)
+  either x xs y (inr other) = inr other
+
+  first_or_other : (x : X) (xs : List X) (y : X) → Contains (x ∷ xs) y → (y ≡ x) ⊎ Contains xs y
+  first_or_other x xs y here = either x xs y (Contains-append_cases (x ∷ []) xs y here)
+
+  later : (x : X) (xs : List X) (y : X) → Contains xs y → Contains (x ∷ xs) y
+  later x xs y here = Contains-append_right (x ∷ []) xs y here
+
+  first : (x y : X) (xs : List X) → y ≡ x → Contains (x ∷ xs) y
+  first x y xs is = (0, omega arith, sym is)
+
+  -- what is found stands in the list, and the test holds of it
+  abbrev pub Found : (X → Bool) → List X → X → Type 0
+  Found test xs y = (test y ≡ true) × Contains xs y
+
+  found_here : (test : X → Bool) (x : X) (xs : List X) (y : X) (b : Bool) → test x ≡ b → ((z : X) → find test xs ≡ Some z → Found test xs z) → cond b (Some x) (find test xs) ≡ Some y → Found test (x ∷ xs) y
+  found_here test x xs y true is others found =
+      let same : x ≡ y = ap (λ o. unwrap_or o x) found in
+      (ap test (sym same) ∙ is, first x y xs (sym same))
+  found_here test x xs y false is others found = let there = others y found in (there.0, later x xs y there.1)
+
+  -- a list that has one of which the test holds is not left without
+  missed_here : (test : X → Bool) (x : X) (xs : List X) (y : X) (b : Bool) → test x ≡ b → test y ≡ true → ((z : X) → Contains xs z → test z ≡ true → find test xs ≡ None → ⊥) → (y ≡ x) ⊎ Contains xs y → cond b (Some x) (find test xs) ≡ None → ⊥
+  missed_here test x xs y true is holds others place none = absurd (none-some x (sym none))
+  missed_here test x xs y false is holds others (inl here) none = absurd (false≢true (sym is ∙ ap test (sym here) ∙ holds))
+  missed_here test x xs y false is holds others (inr there) none = others y there holds none
+
+  find_is : (test : X → Bool) (xs : List X) (y : X) → find test xs ≡ Some y → Found test xs y
+  find_is test [] y found = absurd (none-some y found)
+  find_is test (x ∷ xs) y found = found_here test x xs y (test x) refl (find_is test xs) found
+
+  find_misses : (test : X → Bool) (xs : List X) (y : X) → Contains xs y → test y ≡ true → find test xs ≡ None → ⊥
+  find_misses test [] y here holds none = absurd (omega (arith, here.1))
+  find_misses test (x ∷ xs) y here holds none = missed_here test x xs y (test x) refl holds (find_misses test xs) (first_or_other x xs y here) none
+
+module _ {X : Type 0} where
+  -- numbered elements are elements
+  numbered_in : (n : ℕ) (x : X) (xs : List X) (e : ℕ × X) → (Contains (enumerate_from (n + 1) xs) e → Contains xs e.1) → (e ≡ (n, x)) ⊎ Contains (enumerate_from (n + 1) xs) e → Contains (x ∷ xs) e.1
+  numbered_in n x xs e others (inl is) = first x e.1 xs (ap (λ q. q.1) is)
+  numbered_in n x xs e others (inr there) = later x xs e.1 (others there)
+
+  numbered : (n : ℕ) (xs : List X) (e : ℕ × X) → Contains (enumerate_from n xs) e → Contains xs e.1
+  numbered n [] e here = absurd (omega (arith, here.1))
+  numbered n (x ∷ xs) e here = numbered_in n x xs e (numbered (n + 1) xs e) (first_or_other {X = ℕ × X} (n, x) (enumerate_from (n + 1) xs) e here)
+
+  -- and each element has a number
+  number_in : (n : ℕ) (x : X) (xs : List X) (y : X) → (Contains xs y → (k : ℕ) × Contains (enumerate_from (n + 1) xs) (k, y)) → (y ≡ x) ⊎ Contains xs y → (k : ℕ) × Contains (enumerate_from n (x ∷ xs)) (k, y)
+  number_in n x xs y others (inl is) = (n, first {X = ℕ × X} (n, x) (n, y) (enumerate_from (n + 1) xs) (ap (λ z. (n, z)) is))
+  number_in n x xs y others (inr there) = let k = others there in (k.0, later {X = ℕ × X} (n, x) (enumerate_from (n + 1) xs) (k.0, y) k.1)
+
+  number : (n : ℕ) (xs : List X) (y : X) → Contains xs y → (k : ℕ) × Contains (enumerate_from n xs) (k, y)
+  number n [] y here = absurd (omega (arith, here.1))
+  number n (x ∷ xs) y here = number_in n x xs y (number (n + 1) xs y) (first_or_other x xs y here)
+
+module _ {X Y : Type 0} (f : X → Y) where
+  -- an element is mapped to an element, and each comes from one
+  mapped_in : (x : X) (xs : List X) (y : X) → (Contains xs y → Contains (map f xs) (f y)) → (y ≡ x) ⊎ Contains xs y → Contains (map f (x ∷ xs)) (f y)
+  mapped_in x xs y others (inl is) = first (f x) (f y) (map f xs) (ap f is)
+  mapped_in x xs y others (inr there) = later (f x) (map f xs) (f y) (others there)
+
+  mapped : (xs : List X) (y : X) → Contains xs y → Contains (map f xs) (f y)
+  mapped [] y here = absurd (omega (arith, here.1))
+  mapped (x ∷ xs) y here = mapped_in x xs y (mapped xs y) (first_or_other x xs y here)
+
+  abbrev ComesFrom : List X → Y → Type 0
+  ComesFrom xs y = (x : X) × Contains xs x × (y ≡ f x)
+
+  comes_in : (x : X) (xs : List X) (y : Y) → (Contains (map f xs) y → ComesFrom xs y) → (y ≡ f x) ⊎ Contains (map f xs) y → ComesFrom (x ∷ xs) y
+  comes_in x xs y others (inl is) = (x, first x x xs refl, is)
+  comes_in x xs y others (inr there) = let from = others there in (from.0, later x xs from.0 from.1, from.2)
+
+  comes_from : (xs : List X) (y : Y) → Contains (map f xs) y → ComesFrom xs y
+  comes_from [] y here = absurd (omega (arith, here.1))
+  comes_from (x ∷ xs) y here = comes_in x xs y (comes_from xs y) (first_or_other (f x) (map f xs) y here)
+
+and_right : (a b : Bool) → (a && b) ≡ true → b ≡ true
+and_right true b is = is
+and_right false b is = absurd (false≢true is)
+
+-- ---- definitions
+
+code_symbol : (p : Program) (s : List ℕ) (link : Linkage) (args : List Tree) (o : Option Function) → symbol_of (code_of p s link args o) ≡ s
+code_symbol p s link args None = refl
+code_symbol p s link args (Some f) = refl
+
+code_link : (p : Program) (s : List ℕ) (link : Linkage) (args : List Tree) (o : Option Function) → link_of (code_of p s link args o) ≡ link
+code_link p s link args None = refl
+code_link p s link args (Some f) = refl
+
+-- a definition of an item has the symbol of the item, and the linkage that it is given
+pub def_symbol : (p : Program) (link : Linkage) (x : Item) → symbol_of (def_of p link x) ≡ item_symbol p x
+def_symbol p link (Fn d args) = code_symbol p (item_symbol p (Fn d args)) link args (slice_get p.functions d.0)
+def_symbol p link (Glue t) = refl
+def_symbol p link (Shim t) = refl
+def_symbol p link (Static d) = refl
+
+pub def_link : (p : Program) (link : Linkage) (x : Item) → link_of (def_of p link x) ≡ link
+def_link p link (Fn d args) = code_link p (item_symbol p (Fn d args)) link args (slice_get p.functions d.0)
+def_link p link (Glue t) = refl
+def_link p link (Shim t) = refl
+def_link p link (Static d) = refl
+
+-- ---- the one unit
+
+module _ (p : Program) (items : List Item) (u : ObjUnit) (is : IsUnitOf p (whole_crate p items) u) (own : HaveOwnSymbols p items) where
+  abbrev made : Item × Linkage → ObjDef
+  made one = def_of p one.1 one.0
+
+  abbrev shared : Item → Item × Linkage
+  shared x = (x, External)
+
+  abbrev at : ℕ × ObjDef → Placed
+  at def = record { unit = 0; number = def.0; def = def.1 }
+
+  -- each definition is of an item
+  def_from : (d : ObjDef) → Contains u.defs d → (x : Item) × Contains items x × (d ≡ def_of p External x)
+  def_from d here =
+      let there = Contains-permutation u.defs (map made (map shared items)) d (IsPermutation-sym (map made (map shared items)) u.defs is.of_items) here in
+      let one = comes_from made (map shared items) d there in
+      let x = comes_from shared items one.0 one.1 in
+      (x.0, x.1, one.2 ∙ ap made x.2)
+
+  -- what is placed is a definition of the unit
+  placed_cases : (one : Placed) → Contains (map at (enumerate_from 0 u.defs)) one ⊎ Contains [] one → Contains u.defs one.def
+  placed_cases one (inl here) =
+      let e = comes_from at (enumerate_from 0 u.defs) one here in
+      subst (Contains u.defs) (sym (ap (λ o. o.def) e.2)) (numbered 0 u.defs e.0 e.1)
+  placed_cases one (inr none) = absurd (omega (arith, none.1))
+
+  placed_from : (one : Placed) → Contains (placed (u ∷ [])) one → Contains u.defs one.def
+  placed_from one here = placed_cases one (Contains-append_cases (map at (enumerate_from 0 u.defs)) [] one here)
+
+  -- a definition of an item's symbol is of the item
+  names : (y : Item) → Contains items y → (one : Placed) → Contains (placed (u ∷ [])) one → defines (item_symbol p y) one ≡ true → IsOf p items y one.def
+  names y member one there defined =
+      let from = def_from one.def (placed_from one there) in
+      let symbol : symbol_of one.def ≡ item_symbol p y = (bytes_eq-Decides (symbol_of one.def) (item_symbol p y)).0 defined in
+      let same : from.0 ≡ y = own from.0 y from.1 member (sym (def_symbol p External from.0) ∙ ap symbol_of (sym from.2) ∙ symbol) in
+      record { compiled = member; link = External; is = from.2 ∙ ap (def_of p External) same }
+
+  is_shared_def : (y : Item) (k : ℕ) → is_shared (item_symbol p y) (at (k, def_of p External y)) ≡ true
+  is_shared_def y k =
+      ap (λ link. is_external link && bytes_eq (symbol_of (def_of p External y)) (item_symbol p y)) (def_link p External y)
+      ∙ (bytes_eq-Decides (symbol_of (def_of p External y)) (item_symbol p y)).1 (def_symbol p External y)
+
+  -- each item has a definition that all may refer to
+  there_is : (y : Item) → Contains items y → (one : Placed) × Contains (placed (u ∷ [])) one × (is_shared (item_symbol p y) one ≡ true)
+  there_is y member =
+      let def = Contains-permutation (map made (map shared items)) u.defs (def_of p External y) is.of_items (mapped made (map shared items) (y, External) (mapped shared items y member)) in
+      let k = number 0 u.defs (def_of p External y) def in
+      let one = at (k.0, def_of p External y) in
+      (one, Contains-append_left (map at (enumerate_from 0 u.defs)) [] one (mapped at (enumerate_from 0 u.defs) (k.0, def_of p External y) k.1), is_shared_def y k.0)
+
+  resolved_own : (unit : ℕ) (y : Item) (one : Placed) → find (is_own unit (item_symbol p y)) (placed (u ∷ [])) ≡ Some one → resolve (u ∷ []) unit (item_symbol p y) ≡ Some one
+  unfolding resolve
+  resolved_own unit y one at_own = ap (λ o. option_or o (find (is_shared (item_symbol p y)) (placed (u ∷ [])))) at_own
+
+  resolved_shared : (unit : ℕ) (y : Item) (one : Placed) → find (is_own unit (item_symbol p y)) (placed (u ∷ [])) ≡ None → find (is_shared (item_symbol p y)) (placed (u ∷ [])) ≡ Some one → resolve (u ∷ []) unit (item_symbol p y) ≡ Some one
+  unfolding resolve
+  resolved_shared unit y one at_own at_shared = ap (λ o. option_or o (find (is_shared (item_symbol p y)) (placed (u ∷ [])))) at_own ∙ at_shared
+
+  by_cases : (unit : ℕ) (y : Item) → Contains items y → (o s : Option Placed) → find (is_own unit (item_symbol p y)) (placed (u ∷ [])) ≡ o → find (is_shared (item_symbol p y)) (placed (u ∷ [])) ≡ s → Resolves p items (u ∷ []) unit y
+  by_cases unit y member (Some one) s at_own at_shared =
+      let found = find_is (is_own unit (item_symbol p y)) (placed (u ∷ [])) one at_own in
+      record { found = one; there = resolved_own unit y one at_own; of_item = names y member one found.1 (and_right (one.unit == unit) (defines (item_symbol p y) one) found.0) }
+  by_cases unit y member None (Some one) at_own at_shared =
+      let found = find_is (is_shared (item_symbol p y)) (placed (u ∷ [])) one at_shared in
+      record { found = one; there = resolved_shared unit y one at_own at_shared; of_item = names y member one found.1 (and_right (is_external (link_of one.def)) (defines (item_symbol p y) one) found.0) }
+  by_cases unit y member None None at_own at_shared =
+      let one = there_is y member in
+      absurd (find_misses (is_shared (item_symbol p y)) (placed (u ∷ [])) one.0 one.1 one.2 at_shared)
+
+  resolved : (unit : ℕ) (y : Item) → Contains items y → Resolves p items (u ∷ []) unit y
+  resolved unit y member = by_cases unit y member (find (is_own unit (item_symbol p y)) (placed (u ∷ []))) (find (is_shared (item_symbol p y)) (placed (u ∷ []))) refl refl
+
+-- ---- objects
+
+module _ (p : Program) (items : List Item) where
+  units_resolve : (units : List ObjUnit) → AreUnitsOf p (whole_crate p items ∷ []) units → HaveOwnSymbols p items → (unit : ℕ) (y : Item) → Contains items y → Resolves p items units unit y
+  units_resolve [] are own = absurd are
+  units_resolve (u ∷ []) are own = resolved p items u are.0 own
+  units_resolve (u ∷ v ∷ more) are own = absurd are.1
+
+  pub all_resolve : (objects : Objects) → HaveOwnSymbols p items → UseThemselves p items → AreObjectsOf p (whole_crate p items ∷ []) objects → AllResolve p items objects.units
+  all_resolve objects own uses are one x y there of_item used = units_resolve objects.units are.units own one.unit y (uses x y of_item.compiled used)
+
+  pub main_resolves : (objects : Objects) → HaveOwnSymbols p items → Contains items (item_of p.main.0) → AreObjectsOf p (whole_crate p items ∷ []) objects → Resolves p items objects.units 0 (item_of p.main.0)
+  main_resolves objects own main are = units_resolve objects.units are.units own 0 (item_of p.main.0) main

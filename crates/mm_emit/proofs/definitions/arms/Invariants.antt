@@ -1,0 +1,5 @@
+use Rattle.std.proofs.Common.{◌≡◌, take}
+use Rattle.mm_emit.proofs.definitions.arms.Given as goal
+
+abbrev pub invariant-loop-arm : goal.invariant-loop-arm
+invariant-loop-arm l = l.made ≡ take l.arm-index l.from

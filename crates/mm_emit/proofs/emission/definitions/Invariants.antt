@@ -1,0 +1,7 @@
+use Rattle.std.proofs.Common.{◌≡◌, map, take}
+use Rattle.mm_objects.specs.declared.objects.Linkage.TheVariants.{External}
+use Rattle.mm_objects.specs.Emitted.{def_of}
+use Rattle.mm_emit.proofs.emission.definitions.Given as goal
+
+abbrev pub invariant-loop-item : goal.invariant-loop-item
+invariant-loop-item l = l.defs.items ≡ map (def_of l.p External) (take l.item-index l.items)

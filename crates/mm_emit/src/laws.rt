@@ -1,0 +1,20 @@
+//! Laws of what is emitted. Each is proved, and its function does nothing.
+
+ghost use Rattle.std.specs.Prelude.{List, [], ◌∷◌, Contains};
+ghost use Rattle.mm_terms.specs.declared.item.Item.{Item};
+ghost use Rattle.mm_collect.specs.declared.program.Program.{Program};
+ghost use Rattle.mm_collect.specs.Roots.{item_of};
+ghost use Rattle.mm_objects.specs.declared.objects.Objects.{Objects};
+ghost use Rattle.mm_objects.specs.Emitted.{AreObjectsOf, AllResolve, HaveOwnSymbols, Resolves, UseThemselves, whole_crate};
+
+/// Where the items hold all that they use, and no two of them have one symbol, each reference in their objects names a
+/// definition of the item that is used there; and where the item that a run begins with is one of them, its symbol names
+/// a definition of it.
+pub fn references()
+    ensures all { (p : Program) (items : List Item) (objects : Objects) →
+        HaveOwnSymbols p items → UseThemselves p items → AreObjectsOf p (whole_crate p items ∷ []) objects →
+        AllResolve p items objects.units }
+    ensures main { (p : Program) (items : List Item) (objects : Objects) →
+        HaveOwnSymbols p items → Contains items (item_of p.main.0) → AreObjectsOf p (whole_crate p items ∷ []) objects →
+        Resolves p items objects.units 0 (item_of p.main.0) }
+{}

@@ -1,0 +1,3 @@
+pub mod NameLemmas
+pub mod Loops
+pub mod Levels

@@ -2,8 +2,11 @@
 #![tactic(auto)]
 
 mod form;
+mod items;
 mod pieces;
+mod reading;
 mod types;
 mod writing;
 
 pub use form::{Segs, SymHead, SymItem, SymMethod, SymType, SymTypes, SymbolForm};
+pub use reading::read_symbol;

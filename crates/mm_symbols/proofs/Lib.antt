@@ -1,3 +1,4 @@
 pub mod NameLemmas
 pub mod Loops
 pub mod Levels
+pub mod TextLemmas

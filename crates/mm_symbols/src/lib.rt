@@ -10,3 +10,4 @@ mod writing;
 
 pub use form::{Segs, SymHead, SymItem, SymMethod, SymType, SymTypes, SymbolForm};
 pub use reading::read_symbol;
+pub use writing::write_symbol;

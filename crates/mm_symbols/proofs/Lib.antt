@@ -2,3 +2,4 @@ pub mod NameLemmas
 pub mod Loops
 pub mod Levels
 pub mod TextLemmas
+pub mod SymbolReads

@@ -1,0 +1,4 @@
+use Rattle.mm_symbols.proofs.laws.one_form.Goals as goal
+
+pub returns : goal.returns
+returns c = ?

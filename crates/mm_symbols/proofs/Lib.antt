@@ -3,3 +3,4 @@ pub mod Loops
 pub mod Levels
 pub mod TextLemmas
 pub mod SymbolReads
+pub mod ItemLemmas

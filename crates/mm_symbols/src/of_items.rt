@@ -78,11 +78,11 @@ fn head_form(alloc: Global, p: &Program, head: TyHead) -> Result<SymHead, NoMemo
 fn type_form(alloc: Global, p: &Program, tree: &Tree) -> Result<SymType, NoMemory>
     ensures { IfOk result (λ form. form ≡ type_form p.now tree.now) }
 {
-    let head = head_form(alloc, p, tree.head)?;
     let mut children = Vec::with_capacity(alloc, tree.children.len())?;
     for child in tree.children.as_slice() {
         children.push(type_form(alloc, p, child)?)?;
     }
+    let head = head_form(alloc, p, tree.head)?;
     Ok(SymType {
         head,
         children: Items::from_vec(children),

@@ -2,5 +2,6 @@ pub mod NameLemmas
 pub mod Loops
 pub mod Levels
 pub mod TextLemmas
+pub mod Readers
 pub mod SymbolReads
 pub mod ItemLemmas

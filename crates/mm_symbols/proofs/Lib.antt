@@ -4,5 +4,6 @@ pub mod Levels
 pub mod TextLemmas
 pub mod Readers
 pub mod NameReads
+pub mod TypeReads
 pub mod SymbolReads
 pub mod ItemLemmas

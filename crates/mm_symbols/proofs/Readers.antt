@@ -182,3 +182,24 @@ module _ {A : Type 0} (Out In : A → Type 0) (text : A → List ℕ) (read : Li
 pub concat-map : {A : Type 0} (text : A → List ℕ) (xs : List A) → concat (map text xs) ≡ flat_map text xs
 concat-map text [] = refl
 concat-map text (x ∷ xs) = ap (λ l. text x ++ l) (concat-map text xs) ∙ sym (flat_map-cons text x xs)
+
+-- ---- what a letter tells
+
+-- what is made of what is read behind a letter
+pub behind_sound : {A B : Type 0} {Out In : A → Type 0} {text : A → List ℕ} {read : List ℕ → Read A} (Out' : B → Type 0) (text' : B → List ℕ) (make : A → B) (letter c : ℕ) → ((a : A) → text' (make a) ≡ letter ∷ text a) → ((a : A) → Out a → Out' (make a)) → Reads Out In text read
+    → (bytes : List ℕ) (z : B) (rest : List ℕ) → eqb c letter ≡ true → made_in make read bytes ≡ Some (z, rest) → Out' z × (c ∷ bytes ≡ text' z ++ rest)
+behind_sound {A} {B} {Out} {In} {text} {read} Out' text' make letter c are holds one bytes z rest is h =
+    let b = bind_some (read bytes) (λ x. Some (make x.0, x.1)) (z, rest) h in
+    let x = b.0 in
+    let s = one.sound bytes x.0 x.1 b.1 in
+    let Fits : B × List ℕ → Type 0 = λ q. Out' q.0 × (c ∷ bytes ≡ text' q.0 ++ q.1) in
+    let whole : c ∷ bytes ≡ text' (make x.0) ++ x.1 = (λ i. eqb-true c letter is i ∷ s.1 i) ∙ ap (λ l. l ++ x.1) (sym (are x.0)) in
+    subst Fits (some_same (make x.0, x.1) (z, rest) b.2) (holds x.0 s.0, whole)
+
+pub behind_complete : {A B : Type 0} {Out In : A → Type 0} {text : A → List ℕ} {read : List ℕ → Read A} (make : A → B) → Reads Out In text read → (a : A) (rest : List ℕ) → In a → made_in make read (text a ++ rest) ≡ Some (make a, rest)
+behind_complete {text = text} {read = read} make one a rest is = bind_at (read (text a ++ rest)) (λ x. Some (make x.0, x.1)) (a, rest) (Some (make a, rest)) (one.complete a rest is) refl
+
+-- the one or the other, as a test tells
+pub pick : {X : Type 0} (R : Type 0) (b : Bool) (x y r : X) → (b ≡ true → x ≡ r → R) → (b ≡ false → y ≡ r → R) → cond b x y ≡ r → R
+pick R true x y r yes' no' h = yes' refl h
+pick R false x y r yes' no' h = no' refl h

@@ -118,14 +118,14 @@ pub reads_segments : Reads (All (λ s. Unit {0})) (All IsSegment) path_text segm
 unfolding segments_in
 reads_segments = reads_behind 78 (reads_until (λ s. Unit {0}) IsSegment seg_text segment_in reads_segment seg_begun)
 
-is_path-sound : (names : List (List ℕ)) → is_path names ≡ true → IsPath names
+pub is_path-sound : (names : List (List ℕ)) → is_path names ≡ true → IsPath names
 is_path-sound [] h = cc
 is_path-sound (name ∷ names) h = record {
   some = λ none. (cc);
   each = All-weaker (λ s. is_name s ≡ true) IsName is_name-sound (name ∷ names) (AllPass-from_list_all is_name (name ∷ names) h);
 }
 
-is_path-complete : (names : List (List ℕ)) → IsPath names → All IsSegment names × (is_path names ≡ true)
+pub is_path-complete : (names : List (List ℕ)) → IsPath names → All IsSegment names × (is_path names ≡ true)
 is_path-complete [] path = absurd (path.some refl)
 is_path-complete (name ∷ names) path = (
   All-weaker IsName IsSegment IsName-segment (name ∷ names) path.each,

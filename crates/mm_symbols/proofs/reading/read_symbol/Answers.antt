@@ -1,7 +1,9 @@
-use Rattle.std.proofs.Common.{◌≡◌, ◌∙◌, List, ℕ, Option, Some, None, sym, ap}
+use Rattle.mm_lex.specs.declared.text_error.TextError.{TextError}
+use Rattle.mm_symbols.specs.declared.form.SymbolForm.{SymbolForm}
+use Rattle.std.proofs.Common.{◌≡◌, ◌∙◌, List, ℕ, Option, Some, None, Err, sym, ap, subst}
 use Rattle.std.proofs.lemmas.Option.{none-some}
 use Rattle.mm_symbols.specs.SymbolForms.{IsSymbol}
-use Rattle.mm_symbols.specs.Reading.{symbol_in}
+use Rattle.mm_symbols.specs.Reading.{Gives, symbol_in}
 use Rattle.mm_symbols.proofs.SymbolReads.{symbol_in-sound, symbol_in-complete}
 use Rattle.mm_symbols.proofs.reading.read_symbol.Goals as goal
 
@@ -12,4 +14,4 @@ pub returns-in-Ok : goal.returns-in-Ok
 returns-in-Ok c = let read = symbol_in-sound 4096 c.args.bytes.now c.in-Ok.form c.in-Ok.ensures in record { formed = read.0; is = read.1 }
 
 pub returns-in-Err-BadText : goal.returns-in-Err-BadText
-returns-in-Err-BadText c is = none_read c.args.bytes.now ? is
+returns-in-Err-BadText c is = none_read c.args.bytes.now (subst (λ (e : TextError). Gives {X = SymbolForm} (λ x. x) (Err e) (symbol_in 4096 c.args.bytes.now)) c.in-Err-BadText.field-0-is c.in-Err-BadText.ensures) is

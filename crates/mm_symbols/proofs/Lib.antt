@@ -6,4 +6,5 @@ pub mod Readers
 pub mod NameReads
 pub mod TypeReads
 pub mod SymbolReads
+pub mod PathLemmas
 pub mod ItemLemmas

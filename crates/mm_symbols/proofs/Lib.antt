@@ -6,5 +6,6 @@ pub mod Readers
 pub mod NameReads
 pub mod TypeReads
 pub mod SymbolReads
+pub mod ItemLaws
 pub mod PathLemmas
 pub mod ItemLemmas

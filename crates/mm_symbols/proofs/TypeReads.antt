@@ -169,7 +169,7 @@ module _ (P : SymType → Type 0) (inner : List ℕ → Read SymType) (one : Rea
   pub reads_shape : Reads IsShape IsShape shape_text (shape_in inner)
   reads_shape = record { sound = shape_sound; complete = λ x rest is. shape_complete x.0 x.1 rest is }
 
-within_node : (n : ℕ) (head : SymHead) (children : List SymType) → IsHead head (length children) × All (IsWithin n) children → IsWithin (suc n) (sym_node head children)
+pub within_node : (n : ℕ) (head : SymHead) (children : List SymType) → IsHead head (length children) × All (IsWithin n) children → IsWithin (suc n) (sym_node head children)
 unfolding IsWithin
 within_node n head children is =
     let Fits : SymHead → List SymType → Type 0 = λ h ts. IsHead h (length ts) × All (IsWithin n) ts in

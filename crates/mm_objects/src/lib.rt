@@ -1,7 +1,13 @@
 //! Objects: what a program is compiled to, in units of definitions that name one another by symbols.
 #![tactic(auto)]
 
+mod line_error;
+mod lines;
+mod number;
 mod objects;
+mod pieces;
+mod progress;
+mod words;
 
 pub use objects::{
     Linkage, ObjBase, ObjBlock, ObjCallee, ObjDef, ObjEnd, ObjInstr, ObjOperand, ObjPlace,

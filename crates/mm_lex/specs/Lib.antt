@@ -1,5 +1,6 @@
 pub mod LexMarks
 pub mod LexReading
+pub mod LexNames
 pub mod LexText
 pub mod LexTokens
 pub mod LexWords

@@ -22,7 +22,7 @@ fn is_blank(c: char) -> bool
 }
 
 /// Whether a name may start with the character.
-fn starts_name(c: char) -> bool
+pub fn starts_name(c: char) -> bool
     ensures { result ≡ starts_name c }
 {
     is_xid_start(c) || c == '_'

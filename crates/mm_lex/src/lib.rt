@@ -24,6 +24,7 @@ pub use text_error::TextError;
 
 mod front;
 mod mark;
+mod name;
 mod number;
 mod run;
 mod scan;
@@ -31,6 +32,7 @@ mod token;
 mod word;
 
 pub use mark::Mark;
+pub use name::is_name;
 pub use scan::{lex, one_reading};
 pub use token::{Place, Token, TokenKind};
 pub use word::Word;

@@ -26,7 +26,7 @@ pub fn lex(alloc: Global, text: &[u8]) -> Result<Vec<Token>, TextError>
 
 /// The characters of a text.
 #[tactic(auto, using(std::proofs::lemmas::Str::chars_from_encodes))]
-fn characters_of(alloc: Global, text: &str) -> Result<Vec<char>, AllocError>
+pub fn characters_of(alloc: Global, text: &str) -> Result<Vec<char>, AllocError>
     ensures are { IfOk result (λ characters. characters.items ≡ chars text.now) }
     ensures few { IfOk result (λ characters. vec_len characters ≤ length text.now) }
 {

@@ -7,6 +7,7 @@ mod number;
 mod objects;
 mod pieces;
 mod progress;
+mod steps;
 mod words;
 
 pub use objects::{

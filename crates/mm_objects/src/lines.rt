@@ -113,12 +113,19 @@ fn arms(alloc: Global, blocks: u64, words: &[&[u8]]) -> Result<Items<Arm>, LineE
     Ok(arms)
 }
 
+/// The operand that a word spells.
+fn operand_of(locals: u32, word: &[u8]) -> Result<ObjOperand, LineError>
+    ensures { Gives result (operand_in locals word.now) }
+{
+    operand(locals, word).ok_or(LineError::Unfit)
+}
+
 fn operands(alloc: Global, locals: u32, words: &[&[u8]]) -> Result<Items<ObjOperand>, LineError>
     ensures { Gives result (all_in (operand_in locals) (map (λ w. w.now) words.now)) }
 {
     let mut operands = Items::new(alloc);
     for word in words {
-        operands.push(operand(locals, word).ok_or(LineError::Unfit)?)?;
+        operands.push(operand_of(locals, word)?)?;
     }
     Ok(operands)
 }
@@ -128,7 +135,7 @@ fn switch(alloc: Global, locals: u32, blocks: u64, words: &[&[u8]]) -> Result<Ob
     ensures { Gives result (switch_in locals blocks (map (λ w. w.now) words.now)) }
 {
     let (on, others) = next(words).ok_or(LineError::Unfit)?;
-    let on = operand(locals, on).ok_or(LineError::Unfit)?;
+    let on = operand_of(locals, on)?;
     let (list, otherwise) = listed(b"else", blocks, others).ok_or(LineError::Unfit)?;
     let arms = arms(alloc, blocks, list)?;
     Ok(ObjEnd::Switch(on, arms, otherwise))
@@ -222,5 +229,9 @@ pub fn label(number_of: u64, words: &[&[u8]]) -> Option<u64>
 {
     let digits = behind(b"bb", only(words)?)?;
     let found = number(digits, u64::MAX)?;
-    if found == number_of { Some(found) } else { None }
+    if found == number_of {
+        Some(found)
+    } else {
+        None
+    }
 }

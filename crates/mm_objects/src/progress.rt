@@ -1,5 +1,8 @@
+ghost use Rattle.std.specs.Prelude.{◌≡◌, IfOk};
+ghost use Rattle.mm_objects.specs.TextReading.{objects_with, with_def, with_block, settled};
+
 use crate::objects::{Linkage, ObjBlock, ObjDef, ObjInstr, ObjUnit, Objects};
-use mm_terms::Text;
+use mm_terms::{NoMemory, Text};
 use sqlite_items::Items;
 
 /// The first line of a function.
@@ -51,4 +54,86 @@ pub enum Progress {
     Block(OpenCode, Items<ObjInstr>),
     /// All of it.
     Done(Objects),
+}
+
+impl OpenUnit {
+    /// The objects, where no unit comes behind this one.
+    fn close(self) -> Result<Objects, NoMemory>
+        ensures { IfOk result (λ o. o ≡ objects_with self) }
+    {
+        let OpenUnit {
+            main,
+            mut units,
+            name,
+            defs,
+        } = self;
+        units.push(ObjUnit { name, defs })?;
+        Ok(Objects { main, units })
+    }
+
+    fn push(self, def: ObjDef) -> Result<OpenUnit, NoMemory>
+        ensures { IfOk result (λ u. u ≡ with_def self def) }
+    {
+        let OpenUnit {
+            main,
+            units,
+            name,
+            mut defs,
+        } = self;
+        defs.push(def)?;
+        Ok(OpenUnit {
+            main,
+            units,
+            name,
+            defs,
+        })
+    }
+}
+
+impl OpenCode {
+    fn push(self, block: ObjBlock) -> Result<OpenCode, NoMemory>
+        ensures { IfOk result (λ c. c ≡ with_block self block) }
+    {
+        let OpenCode {
+            unit,
+            header,
+            mut blocks,
+        } = self;
+        blocks.push(block)?;
+        Ok(OpenCode {
+            unit,
+            header,
+            blocks,
+        })
+    }
+
+    /// The function is whole where it has all its blocks.
+    #[tactic(auto, unfolding(crate::specs::TextReading::settled))]
+    fn settle(self) -> Result<Progress, NoMemory>
+        ensures { IfOk result (λ next. next ≡ settled self) }
+    {
+        if self.blocks.len() as u64 != self.header.blocks {
+            return Ok(Progress::Code(self));
+        }
+        let OpenCode {
+            unit,
+            header,
+            blocks,
+        } = self;
+        let Header {
+            symbol,
+            link,
+            params,
+            locals,
+            ..
+        } = header;
+        let def = ObjDef::Code {
+            symbol,
+            link,
+            params,
+            locals,
+            blocks,
+        };
+        Ok(Progress::Unit(unit.push(def)?))
+    }
 }

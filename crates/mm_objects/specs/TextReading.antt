@@ -1,5 +1,6 @@
 -- Reading object text line by line: what is read so far, and what a further line makes of it.
-use Rattle.std.specs.Prelude.{ℕ, ◌==◌, ◌&&◌, Bool, true, false, cond, List, [], ◌∷◌, ◌++◌, length, codes, Option, Some, None}
+use Rattle.std.specs.Prelude.{ℕ, ◌==◌, ◌+◌, ◌&&◌, Bool, cond, List, [], ◌∷◌, ◌++◌, length, codes, Option, Some, None, Result, Ok, Err}
+use Rattle.std.specs.List.{slice_split}
 use Rattle.std.specs.Str.{bytes_eq}
 use Rattle.mm_objects.specs.declared.objects.Objects.{Objects}
 use Rattle.mm_objects.specs.declared.objects.ObjUnit.{ObjUnit}
@@ -96,3 +97,40 @@ next_in several (at.Done o) words = None
 unfoldable pub run_in : Bool → Progress → List Line → Option Progress
 run_in several progress [] = Some progress
 run_in several progress (line ∷ lines) = next_in several progress line >>= λ next. run_in several next lines
+
+-- ---- all lines
+
+-- what was read, or the number of the line that does not fit
+abbrev pub at_line : {A : Type 0} → ℕ → Option A → Result A ℕ
+at_line n None = Err n
+at_line n (Some a) = Ok a
+
+abbrev pub then : {A B : Type 0} → Result A ℕ → (A → Result B ℕ) → Result B ℕ
+then (Ok a) go = go a
+then (Err n) go = Err n
+
+-- the words of a line
+abbrev pub words_in : List ℕ → Line
+words_in line = slice_split (λ b. b == 32) line
+
+-- what lines make of what was read, or the number of the first line that does not fit, where the next line has this number
+unfoldable pub follow : Bool → ℕ → Progress → List (List ℕ) → Result Progress ℕ
+follow several n progress [] = Ok progress
+follow several n progress (line ∷ lines) = then (at_line n (next_in several progress (words_in line))) (λ next. follow several (n + 1) next lines)
+
+abbrev pub done_of : Progress → Option Objects
+done_of at.Start = None
+done_of at.Headed = None
+done_of (at.Main main) = None
+done_of (at.«Unit» u) = None
+done_of (at.Code c) = None
+done_of (at.Block c instrs) = None
+done_of (at.Done o) = Some o
+
+abbrev pub if_none : {A B : Type 0} → List A → Option B → Option B
+if_none [] o = o
+if_none (x ∷ xs) o = None
+
+-- the objects of lines and of the bytes behind the last LF, of which there are none
+unfoldable pub text_in : Bool → List (List ℕ) → List ℕ → Result Objects ℕ
+text_in several lines last = then (follow several 1 at.Start lines) (λ progress. at_line (length lines + 1) (if_none last (done_of progress)))

@@ -58,7 +58,7 @@ pub enum Progress {
 
 impl OpenUnit {
     /// The objects, where no unit comes behind this one.
-    fn close(self) -> Result<Objects, NoMemory>
+    pub fn close(self) -> Result<Objects, NoMemory>
         ensures { IfOk result (λ o. o ≡ objects_with self) }
     {
         let OpenUnit {
@@ -71,7 +71,7 @@ impl OpenUnit {
         Ok(Objects { main, units })
     }
 
-    fn push(self, def: ObjDef) -> Result<OpenUnit, NoMemory>
+    pub fn push(self, def: ObjDef) -> Result<OpenUnit, NoMemory>
         ensures { IfOk result (λ u. u ≡ with_def self def) }
     {
         let OpenUnit {
@@ -91,7 +91,7 @@ impl OpenUnit {
 }
 
 impl OpenCode {
-    fn push(self, block: ObjBlock) -> Result<OpenCode, NoMemory>
+    pub fn push(self, block: ObjBlock) -> Result<OpenCode, NoMemory>
         ensures { IfOk result (λ c. c ≡ with_block self block) }
     {
         let OpenCode {
@@ -109,7 +109,7 @@ impl OpenCode {
 
     /// The function is whole where it has all its blocks.
     #[tactic(auto, unfolding(crate::specs::TextReading::settled))]
-    fn settle(self) -> Result<Progress, NoMemory>
+    pub fn settle(self) -> Result<Progress, NoMemory>
         ensures { IfOk result (λ next. next ≡ settled self) }
     {
         if self.blocks.len() as u64 != self.header.blocks {

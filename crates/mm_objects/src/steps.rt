@@ -85,12 +85,12 @@ fn behind_main(
 
 /// The first line of a function, behind its first word.
 #[tactic(auto, unfolding(crate::specs::TextReading::code_in))]
-fn code(alloc: Global, open: OpenUnit, words: &[&[u8]]) -> Result<Progress, LineError>
-    ensures { Gives result (code_in open (map (λ w. w.now) words.now)) }
+fn code(alloc: Global, begun: OpenUnit, words: &[&[u8]]) -> Result<Progress, LineError>
+    ensures { Gives result (code_in begun (map (λ w. w.now) words.now)) }
 {
     let header = header(alloc, words)?;
     Ok(Progress::Code(OpenCode {
-        unit: open,
+        unit: begun,
         header,
         blocks: Items::new(alloc),
     }))
@@ -100,20 +100,20 @@ fn code(alloc: Global, open: OpenUnit, words: &[&[u8]]) -> Result<Progress, Line
 fn behind_def(
     alloc: Global,
     several: bool,
-    open: OpenUnit,
+    begun: OpenUnit,
     words: &[&[u8]],
 ) -> Result<Progress, LineError>
-    ensures { Gives result (behind_def_in several open (map (λ w. w.now) words.now)) }
+    ensures { Gives result (behind_def_in several begun (map (λ w. w.now) words.now)) }
 {
     let (key, others) = next(words).ok_or(LineError::Unfit)?;
     if is(key, b"fn") {
-        return code(alloc, open, others);
+        return code(alloc, begun, others);
     }
     if is(key, b"end") {
-        return finished(open.close()?, others);
+        return finished(begun.close()?, others);
     }
     if several && is(key, b"unit") {
-        let Objects { main, units } = open.close()?;
+        let Objects { main, units } = begun.close()?;
         return unit(alloc, main, units, others);
     }
     Err(LineError::Unfit)
@@ -121,30 +121,30 @@ fn behind_def(
 
 /// The label of the next block.
 #[tactic(auto, unfolding(crate::specs::TextReading::block_in))]
-fn block(alloc: Global, open: OpenCode, words: &[&[u8]]) -> Result<Progress, LineError>
-    ensures { Gives result (block_in open (map (λ w. w.now) words.now)) }
+fn block(alloc: Global, begun: OpenCode, words: &[&[u8]]) -> Result<Progress, LineError>
+    ensures { Gives result (block_in begun (map (λ w. w.now) words.now)) }
 {
-    label(open.blocks.len() as u64, words).ok_or(LineError::Unfit)?;
-    Ok(Progress::Block(open, Items::new(alloc)))
+    label(begun.blocks.len() as u64, words).ok_or(LineError::Unfit)?;
+    Ok(Progress::Block(begun, Items::new(alloc)))
 }
 
 /// An instruction or the end of a block.
 #[tactic(auto, unfolding(crate::specs::TextReading::within_block_in))]
 fn within_block(
     alloc: Global,
-    open: OpenCode,
+    begun: OpenCode,
     mut instrs: Items<ObjInstr>,
     words: &[&[u8]],
 ) -> Result<Progress, LineError>
-    ensures { Gives result (within_block_in open instrs (map (λ w. w.now) words.now)) }
+    ensures { Gives result (within_block_in begun instrs (map (λ w. w.now) words.now)) }
 {
-    if let Some(instr) = instr(open.header.locals, words) {
+    if let Some(instr) = instr(begun.header.locals, words) {
         instrs.push(instr)?;
-        return Ok(Progress::Block(open, instrs));
+        return Ok(Progress::Block(begun, instrs));
     }
-    let end = end(alloc, open.header.locals, open.header.blocks, words)?;
-    let open = open.push(ObjBlock { instrs, end })?;
-    Ok(open.settle()?)
+    let end = end(alloc, begun.header.locals, begun.header.blocks, words)?;
+    let begun = begun.push(ObjBlock { instrs, end })?;
+    Ok(begun.settle()?)
 }
 
 impl Progress {
@@ -162,9 +162,9 @@ impl Progress {
             Progress::Start => head(words),
             Progress::Headed => main(alloc, words),
             Progress::Main(main) => behind_main(alloc, several, main, words),
-            Progress::Unit(open) => behind_def(alloc, several, open, words),
-            Progress::Code(open) => block(alloc, open, words),
-            Progress::Block(open, instrs) => within_block(alloc, open, instrs, words),
+            Progress::Unit(begun) => behind_def(alloc, several, begun, words),
+            Progress::Code(begun) => block(alloc, begun, words),
+            Progress::Block(begun, instrs) => within_block(alloc, begun, instrs, words),
             Progress::Done(_) => Err(LineError::Unfit),
         }
     }

@@ -34,7 +34,7 @@ seen-append : (xs ys : List (Bor Word)) → seen (xs ++ ys) ≡ seen xs ++ seen 
 seen-append [] ys = refl
 seen-append (x ∷ xs) ys = ap (λ l. x.now ∷ l) (seen-append xs ys)
 
-seen-length : (xs : List (Bor Word)) → length (seen xs) ≡ length xs
+pub seen-length : (xs : List (Bor Word)) → length (seen xs) ≡ length xs
 seen-length [] = refl
 seen-length (x ∷ xs) = ap suc (seen-length xs)
 

@@ -1,4 +1,5 @@
-ghost use Rattle.std.specs.Prelude.{◌≡◌, map, Option};
+ghost use Rattle.std.specs.Prelude.{◌≡◌, ◌==◌, ◌++◌, [], ◌∷◌, ℕ, List, map, Option};
+ghost use Rattle.std.specs.List.{slice_split};
 ghost use Rattle.mm_objects.specs.Given.{Gives, GivesAt};
 ghost use Rattle.mm_objects.specs.TextReading.{next_in, words_in, at_line, done_of, if_none, text_in};
 
@@ -75,4 +76,16 @@ fn read_lines(
         number = number.checked_add(1).ok_or(ObjFault::NoMemory)?;
     }
     numbered(number, finish(progress, last))
+}
+
+/// The objects whose text the bytes are; without `several` there is one unit.
+fn read(alloc: Global, several: bool, bytes: &[u8]) -> Result<Objects, ObjFault>
+    ensures { (lines : List (List ℕ)) (last : List ℕ) → slice_split (λ b. b == 10) bytes.now ≡ lines ++ last ∷ [] →
+        GivesAt result (text_in several lines last) }
+{
+    let parts = cut(alloc, bytes, b'\n')?;
+    match parts.split_last() {
+        Some((last, lines)) => read_lines(alloc, several, lines, last),
+        None => Err(ObjFault::BadObjects(1)),
+    }
 }

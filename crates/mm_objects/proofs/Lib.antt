@@ -1,2 +1,4 @@
 pub mod PieceLemmas
 pub mod FollowLemmas
+pub mod ReadTools
+pub mod WordReads

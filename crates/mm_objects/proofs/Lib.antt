@@ -1,5 +1,10 @@
 pub mod PieceLemmas
 pub mod FollowLemmas
 pub mod ReadTools
+pub mod NameLaws
 pub mod WordReads
 pub mod LineReads
+pub mod HeaderReads
+pub mod SoundSteps
+pub mod AgainSteps
+pub mod GoingOn

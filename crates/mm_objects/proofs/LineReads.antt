@@ -32,22 +32,22 @@ use Rattle.mm_objects.proofs.PieceLemmas.{last_two-at}
 
 -- ---- parts of lists of words
 
-first-is : (ws : Line) (w : Word) (others : Line) → first_of ws ≡ Some (w, others) → w ∷ others ≡ ws
+pub first-is : (ws : Line) (w : Word) (others : Line) → first_of ws ≡ Some (w, others) → w ∷ others ≡ ws
 first-is [] w others h = cc
 first-is (v ∷ vs) w others h = let e = some_same (v, vs) (w, others) h in λ i. (sym e i).0 ∷ (sym e i).1
 
-only-is : (ws : Line) (w : Word) → only_of ws ≡ Some w → w ∷ [] ≡ ws
+pub only-is : (ws : Line) (w : Word) → only_of ws ≡ Some w → w ∷ [] ≡ ws
 only-is [] w h = cc
 only-is (v ∷ []) w h = ap (λ x. x ∷ []) (sym (some_same v w h))
 only-is (v ∷ u ∷ vs) w h = cc
 
-both-is : (ws : Line) (p : Word × Word) → both_of ws ≡ Some p → p.0 ∷ p.1 ∷ [] ≡ ws
+pub both-is : (ws : Line) (p : Word × Word) → both_of ws ≡ Some p → p.0 ∷ p.1 ∷ [] ≡ ws
 both-is [] p h = cc
 both-is (v ∷ []) p h = cc
 both-is (v ∷ u ∷ []) p h = let e = some_same (v, u) p h in λ i. (sym e i).0 ∷ (sym e i).1 ∷ []
 both-is (v ∷ u ∷ t ∷ vs) p h = cc
 
-done-is : {A : Type 0} (a b : A) (ws : Line) → if_done a ws ≡ Some b → (a ≡ b) × ([] ≡ ws)
+pub done-is : {A : Type 0} (a b : A) (ws : Line) → if_done a ws ≡ Some b → (a ≡ b) × ([] ≡ ws)
 done-is a b [] h = (some_same a b h, refl)
 done-is a b (w ∷ ws) h = cc
 
@@ -105,7 +105,7 @@ binary-sound locals op ws v h =
     let x = (operand-reads locals).sound p.0.0 a.0 a.1 in
     let y = (operand-reads locals).sound p.0.1 b.0 b.1 in
     subst (λ u. IsRvalue locals u × (rvalue_words u ≡ op_text op ∷ ws)) (some_same _ _ b.2)
-        ((x.0, y.0), (λ i. op_text op ∷ x.1 i ∷ y.1 i ∷ []) ∙ ap (λ l. op_text op ∷ l) (both-is ws p.0 p.1))
+    ((x.0, y.0), (λ i. op_text op ∷ x.1 i ∷ y.1 i ∷ []) ∙ ap (λ l. op_text op ∷ l) (both-is ws p.0 p.1))
 
 binary-again : (locals : ℕ) (op : Op) (a b : ObjOperand) → IsOperand locals a → IsOperand locals b → binary_in locals op (operand_text a ∷ operand_text b ∷ []) ≡ Some (rvalues.Binary op a b)
 unfolding binary_in
@@ -115,20 +115,21 @@ rvalue-behind : (locals : ℕ) (w : Word) (ws : Line) (v : ObjRvalue) → rvalue
 unfolding rvalue_in
 rvalue-behind locals w ws v h =
     elim (keyed w (codes "use") _ _ v h) [
-      inl p ↦
-        let a = bind_some (one_operand_in locals ws) _ v p.1 in
-        let x = one_operand-sound locals ws a.0 a.1 in
-        subst (λ u. IsRvalue locals u × (rvalue_words u ≡ w ∷ ws)) (some_same _ _ a.2) (x.0, λ i. sym p.0 i ∷ x.1 i)
-    | inr h ↦ elim (keyed w (codes "not") _ _ v h) [
-      inl p ↦
-        let a = bind_some (one_operand_in locals ws) _ v p.1 in
-        let x = one_operand-sound locals ws a.0 a.1 in
-        subst (λ u. IsRvalue locals u × (rvalue_words u ≡ w ∷ ws)) (some_same _ _ a.2) (x.0, λ i. sym p.0 i ∷ x.1 i)
-    | inr h ↦
-        let op = bind_some (op_in w) _ v h in
-        let x = binary-sound locals op.0 ws v op.2 in
-        (x.0, x.1 ∙ ap (λ u. u ∷ ws) (op-reads.sound w op.0 op.1).1)
-    ] ]
+      | inl p ↦
+          let a = bind_some (one_operand_in locals ws) _ v p.1 in
+          let x = one_operand-sound locals ws a.0 a.1 in
+          subst (λ u. IsRvalue locals u × (rvalue_words u ≡ w ∷ ws)) (some_same _ _ a.2) (x.0, λ i. sym p.0 i ∷ x.1 i)
+      | inr h ↦ elim (keyed w (codes "not") _ _ v h) [
+        | inl p ↦
+            let a = bind_some (one_operand_in locals ws) _ v p.1 in
+            let x = one_operand-sound locals ws a.0 a.1 in
+            subst (λ u. IsRvalue locals u × (rvalue_words u ≡ w ∷ ws)) (some_same _ _ a.2) (x.0, λ i. sym p.0 i ∷ x.1 i)
+        | inr h ↦
+            let op = bind_some (op_in w) _ v h in
+            let x = binary-sound locals op.0 ws v op.2 in
+            (x.0, x.1 ∙ ap (λ u. u ∷ ws) (op-reads.sound w op.0 op.1).1)
+      ]
+    ]
 
 rvalue-sound : (locals : ℕ) (ws : Line) (v : ObjRvalue) → rvalue_in locals ws ≡ Some v → IsRvalue locals v × (rvalue_words v ≡ ws)
 unfolding rvalue_in
@@ -160,18 +161,18 @@ set-sound locals ws instr h =
     let p = (place-reads locals).sound x.0.0 place.0 place.1 in
     let v = rvalue-sound locals x.0.1 value.0 value.1 in
     subst (λ u. IsInstr locals u × (instr_words u ≡ codes "set" ∷ ws)) (some_same _ _ value.2)
-        ((p.0, v.0), (λ i. codes "set" ∷ p.1 i ∷ v.1 i) ∙ ap (λ l. codes "set" ∷ l) (first-is ws x.0.0 x.0.1 x.1))
+    ((p.0, v.0), (λ i. codes "set" ∷ p.1 i ∷ v.1 i) ∙ ap (λ l. codes "set" ∷ l) (first-is ws x.0.0 x.0.1 x.1))
 
 instr-behind : (locals : ℕ) (w : Word) (ws : Line) (instr : ObjInstr) → instr_in locals (w ∷ ws) ≡ Some instr → IsInstr locals instr × (instr_words instr ≡ w ∷ ws)
 unfolding instr_in
 instr-behind locals w ws instr h =
     elim (keyed w (codes "set") _ _ instr h) [
-      inl p ↦ let x = set-sound locals ws instr p.1 in (x.0, x.1 ∙ ap (λ u. u ∷ ws) (sym p.0))
-    | inr h ↦
-        let p = keyed_only w (codes "print") _ instr h in
-        let a = bind_some (one_operand_in locals ws) _ instr p.1 in
-        let x = one_operand-sound locals ws a.0 a.1 in
-        subst (λ u. IsInstr locals u × (instr_words u ≡ w ∷ ws)) (some_same _ _ a.2) (x.0, λ i. sym p.0 i ∷ x.1 i)
+      | inl p ↦ let x = set-sound locals ws instr p.1 in (x.0, x.1 ∙ ap (λ u. u ∷ ws) (sym p.0))
+      | inr h ↦
+          let p = keyed_only w (codes "print") _ instr h in
+          let a = bind_some (one_operand_in locals ws) _ instr p.1 in
+          let x = one_operand-sound locals ws a.0 a.1 in
+          subst (λ u. IsInstr locals u × (instr_words u ≡ w ∷ ws)) (some_same _ _ a.2) (x.0, λ i. sym p.0 i ∷ x.1 i)
     ]
 
 instr-sound : (locals : ℕ) (ws : Line) (instr : ObjInstr) → instr_in locals ws ≡ Some instr → IsInstr locals instr × (instr_words instr ≡ ws)
@@ -234,7 +235,7 @@ arm-sound blocks w arm h =
     let y = (below-reads blocks).sound p.0.1 k.0 k.1 in
     let fits : n.0 < 2 ^ 64 = omega (arith, x.0) in
     subst (λ u. IsArm blocks u × (arm_text u ≡ w)) (some_same _ _ k.2)
-        ((fits, y.0), (λ i. x.1 i ++ codes ":" ++ y.1 i) ∙ append_assoc p.0.0 (codes ":") p.0.1 ∙ ap (join_with_byte 58) (both-is _ p.0 p.1) ∙ join_with_byte-slice_split 58 w)
+    ((fits, y.0), (λ i. x.1 i ++ codes ":" ++ y.1 i) ∙ append_assoc p.0.0 (codes ":") p.0.1 ∙ ap (join_with_byte 58) (both-is _ p.0 p.1) ∙ join_with_byte-slice_split 58 w)
 
 arm-again : (blocks : ℕ) (arm : Arm) → IsArm blocks arm → arm_in blocks (arm_text arm) ≡ Some arm
 unfolding arm_in
@@ -255,7 +256,7 @@ switch-sound locals blocks ws e h =
     let q = listed-sound (codes "else") blocks x.0.1 l.0 l.1 in
     let r = (all-reads (arm-reads blocks)).sound l.0.0 m.0 m.1 in
     subst (λ u. IsEnd locals blocks u × (end_words u ≡ codes "switch" ∷ ws)) (some_same _ _ m.2)
-        ((p.0, r.0, q.0), (λ i. codes "switch" ∷ p.1 i ∷ (r.1 i ++ codes "else" ∷ decimal l.0.1 ∷ [])) ∙ ap (λ l. codes "switch" ∷ x.0.0 ∷ l) q.1 ∙ ap (λ l. codes "switch" ∷ l) (first-is ws x.0.0 x.0.1 x.1))
+    ((p.0, r.0, q.0), (λ i. codes "switch" ∷ p.1 i ∷ (r.1 i ++ codes "else" ∷ decimal l.0.1 ∷ [])) ∙ ap (λ l. codes "switch" ∷ x.0.0 ∷ l) q.1 ∙ ap (λ l. codes "switch" ∷ l) (first-is ws x.0.0 x.0.1 x.1))
 
 call-sound : (locals blocks : ℕ) (ws : Line) (e : ObjEnd) → call_in locals blocks ws ≡ Some e → IsEnd locals blocks e × (end_words e ≡ codes "call" ∷ ws)
 unfolding call_in
@@ -270,9 +271,10 @@ call-sound locals blocks ws e h =
     let f = callee-reads.sound y.0.0 callee.0 callee.1 in
     let q = listed-sound (codes "->") blocks y.0.1 l.0 l.1 in
     let r = (all-reads (operand-reads locals)).sound l.0.0 m.0 m.1 in
-    subst (λ u. IsEnd locals blocks u × (end_words u ≡ codes "call" ∷ ws)) (some_same _ _ m.2)
-        ((p.0, f.0, r.0, q.0),
-         (λ i. codes "call" ∷ p.1 i ∷ f.1 i ∷ (r.1 i ++ codes "->" ∷ decimal l.0.1 ∷ [])) ∙ ap (λ l. codes "call" ∷ x.0.0 ∷ y.0.0 ∷ l) q.1 ∙ ap (λ l. codes "call" ∷ x.0.0 ∷ l) (first-is x.0.1 y.0.0 y.0.1 y.1) ∙ ap (λ l. codes "call" ∷ l) (first-is ws x.0.0 x.0.1 x.1))
+    subst (λ u. IsEnd locals blocks u × (end_words u ≡ codes "call" ∷ ws)) (some_same _ _ m.2) (
+      (p.0, f.0, r.0, q.0),
+      (λ i. codes "call" ∷ p.1 i ∷ f.1 i ∷ (r.1 i ++ codes "->" ∷ decimal l.0.1 ∷ [])) ∙ ap (λ l. codes "call" ∷ x.0.0 ∷ y.0.0 ∷ l) q.1 ∙ ap (λ l. codes "call" ∷ x.0.0 ∷ l) (first-is x.0.1 y.0.0 y.0.1 y.1) ∙ ap (λ l. codes "call" ∷ l) (first-is ws x.0.0 x.0.1 x.1),
+    )
 
 alone-sound : (locals blocks : ℕ) (w : Word) (ws : Line) (d e : ObjEnd) → IsEnd locals blocks d → end_words d ≡ w ∷ [] → if_done d ws ≡ Some e → IsEnd locals blocks e × (end_words e ≡ w ∷ ws)
 alone-sound locals blocks w ws d e is spelled h =
@@ -283,15 +285,18 @@ end-behind : (locals blocks : ℕ) (w : Word) (ws : Line) (e : ObjEnd) → end_i
 unfolding end_in
 end-behind locals blocks w ws e h =
     elim (keyed w (codes "return") _ _ e h) [
-      inl p ↦ alone-sound locals blocks w ws ends.Return e tt (ap (λ u. u ∷ []) (sym p.0)) p.1
-    | inr h ↦ elim (keyed w (codes "unreachable") _ _ e h) [
-      inl p ↦ alone-sound locals blocks w ws ends.Unreachable e tt (ap (λ u. u ∷ []) (sym p.0)) p.1
-    | inr h ↦ elim (keyed w (codes "goto") _ _ e h) [
-      inl p ↦ let x = below-one-sound blocks ws e p.1 locals in (x.0, x.1 ∙ ap (λ u. u ∷ ws) (sym p.0))
-    | inr h ↦ elim (keyed w (codes "switch") _ _ e h) [
-      inl p ↦ let x = switch-sound locals blocks ws e p.1 in (x.0, x.1 ∙ ap (λ u. u ∷ ws) (sym p.0))
-    | inr h ↦ let p = keyed_only w (codes "call") _ e h in let x = call-sound locals blocks ws e p.1 in (x.0, x.1 ∙ ap (λ u. u ∷ ws) (sym p.0))
-    ] ] ] ]
+      | inl p ↦ alone-sound locals blocks w ws ends.Return e tt (ap (λ u. u ∷ []) (sym p.0)) p.1
+      | inr h ↦ elim (keyed w (codes "unreachable") _ _ e h) [
+        | inl p ↦ alone-sound locals blocks w ws ends.Unreachable e tt (ap (λ u. u ∷ []) (sym p.0)) p.1
+        | inr h ↦ elim (keyed w (codes "goto") _ _ e h) [
+          | inl p ↦ let x = below-one-sound blocks ws e p.1 locals in (x.0, x.1 ∙ ap (λ u. u ∷ ws) (sym p.0))
+          | inr h ↦ elim (keyed w (codes "switch") _ _ e h) [
+            | inl p ↦ let x = switch-sound locals blocks ws e p.1 in (x.0, x.1 ∙ ap (λ u. u ∷ ws) (sym p.0))
+            | inr h ↦ let p = keyed_only w (codes "call") _ e h in let x = call-sound locals blocks ws e p.1 in (x.0, x.1 ∙ ap (λ u. u ∷ ws) (sym p.0))
+          ]
+        ]
+      ]
+    ]
 
 end-sound : (locals blocks : ℕ) (ws : Line) (e : ObjEnd) → end_in locals blocks ws ≡ Some e → IsEnd locals blocks e × (end_words e ≡ ws)
 unfolding end_in

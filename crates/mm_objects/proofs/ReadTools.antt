@@ -59,6 +59,9 @@ keyed_only w key x a h = elim (keyed w key x None a h) [ inl p ↦ p | inr n ↦
 pub key_at : {A : Type 0} (key : Word) (x y : A) → cond (bytes_eq key key) x y ≡ x
 key_at key x y = ap (λ b. cond b x y) (same_word key)
 
+pub eqb-self : (n : ℕ) → eqb n n ≡ true
+eqb-self n = grind (arith, nat_tests)
+
 -- ---- fronts
 
 pub behind-sound : (front : List ℕ) (w : Word) (rest : List ℕ) → behind front w ≡ Some rest → front ++ rest ≡ w
@@ -74,21 +77,21 @@ behind-again front rest = rw (take-append_seam, drop-append_seam, same_word fron
 
 pub number-reads : (limit : ℕ) → limit < 2 ^ 64 → Reads (λ n. n ≤ limit) decimal (number_in limit)
 number-reads limit small = record {
-    sound = λ w n h. let p = number_in-writes limit n w small h in (p.1, p.0);
-    again = λ n few. number_in-decimal limit n small few;
-  }
+  sound = λ w n h. let p = number_in-writes limit n w small h in (p.1, p.0);
+  again = λ n few. number_in-decimal limit n small few;
+}
 
 pub below-reads : (limit : ℕ) → Reads (IsBelow limit) decimal (below_in limit)
 unfolding below_in
 below-reads limit = record {
-    sound = λ w n h.
-        let b = bind_some (number_in (2 ^ 32 - 1) w) (λ n. cond (ltb n limit) (Some n) None) n h in
-        let c = cond_some (ltb b.0 limit) b.0 n b.2 in
-        let p = number_in-writes (2 ^ 32 - 1) b.0 w (omega arith) b.1 in
-        let less : b.0 < limit = ltb-true b.0 limit c.0 in
-        ((omega (arith, less, c.1), omega (arith, p.1, c.1)), subst (λ m. decimal m ≡ w) c.1 p.0);
-    again = λ n is. bind_at (number_in (2 ^ 32 - 1) (decimal n)) _ n (Some n) (number_in-decimal (2 ^ 32 - 1) n (omega arith) (omega (arith, is.1))) (rw (lt-ltb n limit is.0) refl);
-  }
+  sound = λ w n h.
+      let b = bind_some (number_in (2 ^ 32 - 1) w) (λ n. cond (ltb n limit) (Some n) None) n h in
+      let c = cond_some (ltb b.0 limit) b.0 n b.2 in
+      let p = number_in-writes (2 ^ 32 - 1) b.0 w (omega arith) b.1 in
+      let less : b.0 < limit = ltb-true b.0 limit c.0 in
+      ((omega (arith, less, c.1), omega (arith, p.1, c.1)), subst (λ m. decimal m ≡ w) c.1 p.0);
+  again = λ n is. bind_at (number_in (2 ^ 32 - 1) (decimal n)) _ n (Some n) (number_in-decimal (2 ^ 32 - 1) n (omega arith) (omega (arith, is.1))) (rw (lt-ltb n limit is.0) refl);
+}
 
 -- digits begin with a digit
 pub record BeginsWithDigit (word : Word) : Type 0 where
@@ -118,5 +121,5 @@ no_word w k ks b other = false_from_ne_true (bytes_eq w (k ∷ ks)) (λ same. di
 pub no_front : (w : Word) (k : ℕ) (ks : Word) → BeginsWithDigit w → is_ascii_digit k ≡ false → behind (k ∷ ks) w ≡ None
 no_front w k ks b other =
     ap (λ v. cond v (Some (drop (length (k ∷ ks)) w)) None) (false_from_ne_true (bytes_eq (take (length (k ∷ ks)) w) (k ∷ ks)) (λ same.
-        let found : behind (k ∷ ks) w ≡ Some (drop (length (k ∷ ks)) w) = rw same refl in
-        digit_apart b.first k b.digit other (head_same b.first k b.others _ (sym b.is ∙ sym (behind-sound (k ∷ ks) w _ found)))))
+    let found : behind (k ∷ ks) w ≡ Some (drop (length (k ∷ ks)) w) = rw same refl in
+    digit_apart b.first k b.digit other (head_same b.first k b.others _ (sym b.is ∙ sym (behind-sound (k ∷ ks) w _ found)))))

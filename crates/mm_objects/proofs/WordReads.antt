@@ -21,6 +21,7 @@ use Rattle.mm_objects.specs.ObjectNames.{IsCodeSymbol, IsUnitName, is_code_symbo
 use Rattle.mm_objects.specs.ObjectText.{Word, base_text, place_text, truth_text, operand_text, op_text, linkage_text, callee_text}
 use Rattle.mm_objects.specs.ObjectForms.{IsBelow, IsBase, IsPlace, IsOperand, IsCallee}
 use Rattle.mm_objects.specs.LineReading.{◌>>=◌, behind, below_in, place_in, copied_in, moved_in, truth_in, literal_in, operand_in, op_in, linkage_in, symbol_in, unit_name_in, callee_in}
+use Rattle.mm_objects.proofs.NameLaws.{symbol-reads}
 use Rattle.mm_objects.proofs.ReadTools.{Reads, some_same, bind_some, bind_at, or_some, chosen, word_is, keyed, keyed_only, key_at, behind-sound, behind-again, number-reads, below-reads, BeginsWithDigit, decimal-begins, no_word, no_front}
 
 place-sound : (locals : ℕ) (w : Word) (place : ObjPlace) → place_in locals w ≡ Some place → IsPlace locals place × (place_text place ≡ w)
@@ -37,20 +38,6 @@ local-again locals (bases.Local n) is = rw ((below-reads locals).again n is) ref
 
 pub place-reads : (locals : ℕ) → Reads (IsPlace locals) place_text (place_in locals)
 place-reads locals = record { sound = place-sound locals; again = λ place is. local-again locals place.base is }
-
-pub symbol-reads : Reads IsCodeSymbol (λ s. s) symbol_in
-unfolding symbol_in
-symbol-reads = record {
-    sound = λ w s h. let p = cond_some (is_code_symbol w) w s h in (subst IsCodeSymbol p.1 p.0, sym p.1);
-    again = λ s is. rw is refl;
-  }
-
-pub unit_name-reads : Reads IsUnitName (λ s. s) unit_name_in
-unfolding unit_name_in
-unit_name-reads = record {
-    sound = λ w s h. let p = cond_some (is_unit_name w) w s h in (subst IsUnitName p.1 p.0, sym p.1);
-    again = λ s is. rw is refl;
-  }
 
 callee-sound : (w : Word) (callee : ObjCallee) → callee_in w ≡ Some callee → IsCallee callee × (callee_text callee ≡ w)
 unfolding callee_in
@@ -73,8 +60,8 @@ linkage-sound : (w : Word) (link : Linkage) → linkage_in w ≡ Some link → l
 unfolding linkage_in
 linkage-sound w link h =
     elim (keyed w (codes "External") _ _ link h) [
-      inl p ↦ subst (λ l. linkage_text l ≡ w) (some_same _ _ p.1) (sym p.0)
-    | inr q ↦ let p = keyed_only w (codes "Internal") _ link q in subst (λ l. linkage_text l ≡ w) (some_same _ _ p.1) (sym p.0)
+      | inl p ↦ subst (λ l. linkage_text l ≡ w) (some_same _ _ p.1) (sym p.0)
+      | inr q ↦ let p = keyed_only w (codes "Internal") _ link q in subst (λ l. linkage_text l ≡ w) (some_same _ _ p.1) (sym p.0)
     ]
 
 linkage-again : (link : Linkage) → linkage_in (linkage_text link) ≡ Some link
@@ -90,19 +77,24 @@ unfolding op_in
 op-sound w op h =
     let told : (o : Op) → w ≡ op_text o → Some o ≡ Some op → op_text op ≡ w = λ o is same. subst (λ l. op_text l ≡ w) (some_same _ _ same) (sym is) in
     elim (keyed w (codes "add") _ _ op h) [
-      inl p ↦ told Add p.0 p.1
-    | inr h ↦ elim (keyed w (codes "sub") _ _ op h) [
-      inl p ↦ told Sub p.0 p.1
-    | inr h ↦ elim (keyed w (codes "mul") _ _ op h) [
-      inl p ↦ told Mul p.0 p.1
-    | inr h ↦ elim (keyed w (codes "div") _ _ op h) [
-      inl p ↦ told Div p.0 p.1
-    | inr h ↦ elim (keyed w (codes "rem") _ _ op h) [
-      inl p ↦ told Rem p.0 p.1
-    | inr h ↦ elim (keyed w (codes "eq") _ _ op h) [
-      inl p ↦ told Eq p.0 p.1
-    | inr h ↦ let p = keyed_only w (codes "lt") _ op h in told Lt p.0 p.1
-    ] ] ] ] ] ]
+      | inl p ↦ told Add p.0 p.1
+      | inr h ↦ elim (keyed w (codes "sub") _ _ op h) [
+        | inl p ↦ told Sub p.0 p.1
+        | inr h ↦ elim (keyed w (codes "mul") _ _ op h) [
+          | inl p ↦ told Mul p.0 p.1
+          | inr h ↦ elim (keyed w (codes "div") _ _ op h) [
+            | inl p ↦ told Div p.0 p.1
+            | inr h ↦ elim (keyed w (codes "rem") _ _ op h) [
+              | inl p ↦ told Rem p.0 p.1
+              | inr h ↦ elim (keyed w (codes "eq") _ _ op h) [
+                | inl p ↦ told Eq p.0 p.1
+                | inr h ↦ let p = keyed_only w (codes "lt") _ op h in told Lt p.0 p.1
+              ]
+            ]
+          ]
+        ]
+      ]
+    ]
 
 pub op-again : (op : Op) → op_in (op_text op) ≡ Some op
 unfolding op_in
@@ -139,8 +131,8 @@ truth-sound : (locals : ℕ) (w : Word) (a : ObjOperand) → truth_in w ≡ Some
 unfolding truth_in
 truth-sound locals w a h =
     elim (keyed w (codes "true") _ _ a h) [
-      inl p ↦ subst (λ o. IsOperand locals o × (operand_text o ≡ w)) (some_same _ _ p.1) (tt, sym p.0)
-    | inr q ↦ let p = keyed_only w (codes "false") _ a q in subst (λ o. IsOperand locals o × (operand_text o ≡ w)) (some_same _ _ p.1) (tt, sym p.0)
+      | inl p ↦ subst (λ o. IsOperand locals o × (operand_text o ≡ w)) (some_same _ _ p.1) (tt, sym p.0)
+      | inr q ↦ let p = keyed_only w (codes "false") _ a q in subst (λ o. IsOperand locals o × (operand_text o ≡ w)) (some_same _ _ p.1) (tt, sym p.0)
     ]
 
 literal-sound : (locals : ℕ) (w : Word) (a : ObjOperand) → literal_in w ≡ Some a → IsOperand locals a × (operand_text a ≡ w)
@@ -155,11 +147,11 @@ operand-sound : (locals : ℕ) (w : Word) (a : ObjOperand) → operand_in locals
 unfolding operand_in
 operand-sound locals w a h =
     elim (or_some _ _ a h) [
-      inl h ↦ elim (or_some _ _ a h) [
-        inl h ↦ elim (or_some _ _ a h) [ inl h ↦ copied-sound locals w a h | inr h ↦ moved-sound locals w a h ]
-      | inr h ↦ truth-sound locals w a h
+      | inl h ↦ elim (or_some _ _ a h) [
+        | inl h ↦ elim (or_some _ _ a h) [ inl h ↦ copied-sound locals w a h | inr h ↦ moved-sound locals w a h ]
+        | inr h ↦ truth-sound locals w a h
       ]
-    | inr h ↦ literal-sound locals w a h
+      | inr h ↦ literal-sound locals w a h
     ]
 
 bind_none : {A B : Type 0} (o : Option A) (go : A → Option B) → o ≡ None → (o >>= go) ≡ None

@@ -150,12 +150,7 @@ fn within_block(
 impl Progress {
     /// What a further line makes of what was read, by its words. Without `several` there is one unit.
     #[tactic(auto, unfolding(crate::specs::TextReading::next_in))]
-    pub fn next(
-        self,
-        alloc: Global,
-        several: bool,
-        words: &[&[u8]],
-    ) -> Result<Progress, LineError>
+    pub fn next(self, alloc: Global, several: bool, words: &[&[u8]]) -> Result<Progress, LineError>
         ensures { Gives result (next_in several self (map (λ w. w.now) words.now)) }
     {
         match self {

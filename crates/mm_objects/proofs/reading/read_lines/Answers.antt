@@ -11,7 +11,7 @@ pub returns-in_err-progress : goal.returns-in_err-progress
 returns-in_err-progress c =
     let p = err_from_is_err_and c.from_residual.result c.from_residual.ensures.1 in
     stopped_at c.from_residual.result c.in_err-progress.field-0.0 _ _ (p.1 ∙ ap Err p.2) (c.in_err-progress.ensures _ c.after.ensures)
-        (λ n fails. text-stop c.args.several (seen c.args.lines.now) c.args.last.now n (follow-stop c.args.several _ c.loop-line.number n c.loop-line.progress c.args.lines.now c.loop-line.line-index _ c.loop-line-test.true c.loop-line.invariant.follows fails))
+    (λ n fails. text-stop c.args.several (seen c.args.lines.now) c.args.last.now n (follow-stop c.args.several _ c.loop-line.number n c.loop-line.progress c.args.lines.now c.loop-line.line-index _ c.loop-line-test.true c.loop-line.invariant.follows fails))
 
 pub loop-line-preserved : goal.loop-line-preserved
 loop-line-preserved c =

@@ -8,3 +8,6 @@ pub mod HeaderReads
 pub mod SoundSteps
 pub mod AgainSteps
 pub mod GoingOn
+pub mod CleanLemmas
+pub mod SplitLemmas
+pub mod TextLaws

@@ -1,0 +1,13 @@
+pub mod PieceLemmas
+pub mod FollowLemmas
+pub mod ReadTools
+pub mod NameLaws
+pub mod WordReads
+pub mod LineReads
+pub mod HeaderReads
+pub mod SoundSteps
+pub mod AgainSteps
+pub mod GoingOn
+pub mod CleanLemmas
+pub mod SplitLemmas
+pub mod TextLaws

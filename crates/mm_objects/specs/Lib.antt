@@ -1,2 +1,8 @@
+pub mod ObjectText
+pub mod ObjectNames
+pub mod ObjectForms
+pub mod Given
+pub mod LineReading
+pub mod TextReading
 pub mod Resolution
 pub mod Emitted

@@ -1,8 +1,18 @@
 //! Objects: what a program is compiled to, in units of definitions that name one another by symbols.
 #![tactic(auto)]
 
+mod fault;
+mod line_error;
+mod lines;
+mod number;
 mod objects;
+mod pieces;
+mod progress;
+mod reading;
+mod steps;
+mod words;
 
+pub use fault::ObjFault;
 pub use objects::{
     Linkage, ObjBase, ObjBlock, ObjCallee, ObjDef, ObjEnd, ObjInstr, ObjOperand, ObjPlace,
     ObjRvalue, ObjUnit, Objects,

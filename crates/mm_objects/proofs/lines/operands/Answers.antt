@@ -1,0 +1,16 @@
+use Rattle.std.proofs.Common.{◌≡◌, ◌∙◌, sym, ap, arith, Err}
+use Rattle.std.proofs.lemmas.Result.{err_from_is_err_and}
+use Rattle.mm_objects.specs.LineReading.{all_in, arm_in, operand_in}
+use Rattle.mm_objects.proofs.PieceLemmas.{seen, all_in-step, all_in-stop, all_in-end, stopped}
+use Rattle.mm_objects.proofs.lines.operands.Goals as goal
+
+pub returns-in_err-operand_of : goal.returns-in_err-operand_of
+returns-in_err-operand_of c =
+    let p = err_from_is_err_and c.from_residual.result c.from_residual.ensures.1 in
+    stopped c.from_residual.result c.in_err-operand_of.field-0.0 _ _ (p.1 ∙ ap Err p.2) c.in_err-operand_of.ensures (all_in-stop (operand_in c.args.locals) c.args.words.now c.loop-word.word-index _ c.loop-word.operands _ c.loop-word.invariant c.loop-word-test.true)
+
+pub loop-word-preserved : goal.loop-word-preserved
+loop-word-preserved c = all_in-step (operand_in c.args.locals) c.args.words.now c.loop-word.word-index _ c.in_ok-operand_of.field-0 c.loop-word.operands _ _ c.loop-word.invariant c.loop-word-test.true c.in_ok-operand_of.ensures c.in_ok-push.ensures.ok
+
+pub returns : goal.returns
+returns c = all_in-end (operand_in c.args.locals) c.args.words.now c.loop-word.word-index c.loop-word.operands _ c.loop-word.invariant c.loop-word-test.false

@@ -1,0 +1,4 @@
+pub mod Values
+pub mod Memory
+pub mod Forms
+pub mod Runs

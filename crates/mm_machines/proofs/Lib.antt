@@ -1,4 +1,4 @@
 pub mod Renaming
-
-
-
+pub mod MemoryLaws
+pub mod FormLaws
+pub mod RunLaws

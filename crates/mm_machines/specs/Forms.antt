@@ -125,8 +125,12 @@ module _ (F V : Type 0) where
   abbrev pub goto : ℕ → Act
   goto label s = On (jumped label s)
 
+  -- the run ends by a trap
+  abbrev pub trapped : Trap → Act
+  trapped t s = Over (ended.Trap t) s.printed
+
   abbrev pub unreachable : Act
-  unreachable s = Over (ended.Trap trap.Unreachable) s.printed
+  unreachable = trapped trap.Unreachable
 
   -- the label of the first arm with the number, or else the other
   abbrev pub arm_for : ℕ → List Arm → ℕ → ℕ

@@ -2,3 +2,5 @@ pub mod Values
 pub mod Memory
 pub mod Forms
 pub mod Runs
+pub mod Demand
+pub mod Image

@@ -1,17 +1,27 @@
 -- Runs: one step after another, and what is seen.
-use Rattle.std.specs.Prelude.{◌≡◌, ℕ, zero, suc, List, [], ◌∷◌, length, replicate}
+use Rattle.std.specs.Prelude.{◌≡◌, ℕ, zero, suc, List, [], ◌∷◌, length, replicate, Option, None, Some}
 use Rattle.mm_machines.specs.declared.frame.Frame.{Frame}
 use Rattle.mm_machines.specs.declared.trap.Ended.{Ended}
 use Rattle.mm_machines.specs.declared.trap.Ended.TheVariants as ended
 use Rattle.mm_machines.specs.declared.trap.Obs.{Obs}
 use Rattle.mm_machines.specs.Values.{uninit}
 use Rattle.mm_machines.specs.Memory.{Memory, no_blocks, with_locals}
-use Rattle.mm_machines.specs.Forms.{Shape, State, Turn, Turn.On, Turn.Over, Act, started}
+use Rattle.mm_machines.specs.Forms.{Shape, State, Turn, Turn.On, Turn.Over, Act, unreachable, started}
 
 module _ (F V : Type 0) where
   -- what stands at each place of each function: by block, and by place in the block
   abbrev pub Code : Type 0
   Code = F → ℕ → ℕ → Act F V
+
+  -- what stands at a place of a block: a statement, or behind the last one the end
+  abbrev pub placed_at : {S : Type 0} → (S → Act F V) → Act F V → Option S → Act F V
+  placed_at act end None = end
+  placed_at act end (Some s) = act s
+
+  -- what stands in a block, and a trap where there is no such block
+  abbrev pub or_nowhere : {B : Type 0} → (B → Act F V) → Option B → Act F V
+  or_nowhere act None = unreachable F V
+  or_nowhere act (Some b) = act b
 
   -- does what stands where the run is
   abbrev pub step : Code → Act F V

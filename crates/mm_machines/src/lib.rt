@@ -2,9 +2,11 @@
 #![tactic(auto)]
 
 mod frame;
+mod target;
 mod trap;
 mod value;
 
 pub use frame::{Caller, Frame, Window};
+pub use target::{Target, VtableId};
 pub use trap::{Ended, Obs, Trap};
 pub use value::{Address, Block, BlockKind, Part, Route, Value, Values};

@@ -2,3 +2,5 @@ pub mod Renaming
 pub mod MemoryLaws
 pub mod FormLaws
 pub mod RunLaws
+pub mod Places
+pub mod Joint

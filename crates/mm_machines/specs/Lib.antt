@@ -4,3 +4,4 @@ pub mod Forms
 pub mod Runs
 pub mod Demand
 pub mod Image
+pub mod Compiled

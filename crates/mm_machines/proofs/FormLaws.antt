@@ -1,5 +1,5 @@
 -- Each form with other names: in a renamed state it does the same, renamed. One law a form.
-use Rattle.std.specs.Prelude.{◌≡◌, ℕ, zero, suc, ◌+◌, ◌-◌, Bool, true, false, List, [], ◌∷◌, ◌++◌, map, length, replicate, Result, Ok, Err, Option, None, Some, nat_eq, nat_lt}
+use Rattle.std.specs.Prelude.{◌≡◌, ℕ, zero, suc, ◌-◌, Bool, true, false, List, [], ◌∷◌, ◌++◌, map, length, replicate, Result, Ok, Err, nat_eq}
 use Rattle.std.proofs.Common.{◌∙◌, refl, sym, ap}
 use Rattle.std.proofs.lemmas.List.{map-append, length-map}
 use Rattle.mm_collect.specs.declared.program.Arm.{Arm}
@@ -11,9 +11,9 @@ use Rattle.mm_machines.specs.declared.trap.Trap.{Trap}
 use Rattle.mm_machines.specs.declared.trap.Trap.TheVariants as trap
 use Rattle.mm_machines.specs.declared.value.Address.{Address}
 use Rattle.mm_machines.specs.declared.value.Value.{Value}
-use Rattle.mm_machines.specs.Values.{then_do, checked, num, truth, uninit, number_of, choice_of, negated, applied, is_whole}
-use Rattle.mm_machines.specs.Memory.{Memory, read, written, with_locals, freed}
-use Rattle.mm_machines.specs.Forms.{Shape, State, Turn, Turn.On, Turn.Over, Find, Eval, Act, local, number, boolean, whole_at, copy, move, all_of, negation, binary, or_trap, at_block, next, jumped, with_memory, assigned, set, number_from, print, goto, unreachable, arm_for, choice_from, switch, locals_for, started, Handed, handed, entered, fitting, call, handed_back, back_to, return}
+use Rattle.mm_machines.specs.Values.{checked, uninit, is_whole}
+use Rattle.mm_machines.specs.Memory.{Memory, written, freed}
+use Rattle.mm_machines.specs.Forms.{Shape, State, Turn, Turn.On, Turn.Over, Find, Eval, Act, local, number, boolean, whole_at, copy, move, all_of, negation, binary, or_trap, at_block, set, print, goto, unreachable, switch, locals_for, started, Handed, handed, entered, fitting, call, handed_back, back_to, return}
 use Rattle.mm_machines.proofs.Renaming.{Renaming, carry, bind_law, bind_plain, checked_law, renamed, num_law, truth_law, uninit_law, whole_law, number_of_law, choice_of_law, negated_law, applied_law}
 use Rattle.mm_machines.proofs.MemoryLaws.{memory_renamed, with_locals_law, freed_law, read_law, written_law}
 

@@ -1,20 +1,15 @@
 -- Both machines at once. What a form does in a definition of an item, and what it does in the item, are two sides of one
 -- step of a third machine, in which a function is an item together with a definition of it. One law a form.
-use Rattle.std.specs.Prelude.{◌≡◌, ℕ, ◌<◌, Bool, List, [], ◌∷◌, ◌++◌, map, flat_map, Option, None, Some, slice_get}
+use Rattle.std.specs.Prelude.{◌≡◌, ℕ, Bool, List, [], ◌∷◌, ◌++◌, map, flat_map, Some}
 use Rattle.std.specs.Option.{option_map}
 use Rattle.std.specs.List.{Contains}
-use Rattle.std.proofs.Common.{◌∙◌, refl, sym, ap, arith, subst}
-use Rattle.std.proofs.lemmas.Option.{slice_get-map}
+use Rattle.std.proofs.Common.{◌∙◌, refl, sym, ap, arith}
 use Rattle.std.proofs.lemmas.List.Elements.{Contains-append_left, Contains-append_right}
 use Rattle.mm_terms.specs.declared.item.Item.{Item}
-use Rattle.mm_terms.specs.declared.item.Item.TheVariants.{Fn, Glue, Shim, Static}
-use Rattle.mm_collect.specs.Uses.{candidates_of, end_calls, calls_of, called}
 use Rattle.mm_collect.specs.declared.program.Arm.{Arm}
-use Rattle.mm_collect.specs.declared.program.Block.{Block}
 use Rattle.mm_collect.specs.declared.program.Call.{Call}
 use Rattle.mm_collect.specs.declared.program.End.{End}
 use Rattle.mm_collect.specs.declared.program.End.TheVariants as end
-use Rattle.mm_collect.specs.declared.program.Function.{Function}
 use Rattle.mm_collect.specs.declared.program.Op.{Op}
 use Rattle.mm_collect.specs.declared.program.Operand.{Operand}
 use Rattle.mm_collect.specs.declared.program.Operand.TheVariants as operand
@@ -25,14 +20,12 @@ use Rattle.mm_collect.specs.declared.program.Rvalue.TheVariants as rvalue
 use Rattle.mm_collect.specs.declared.program.Statement.{Statement}
 use Rattle.mm_collect.specs.declared.program.Statement.TheVariants as statement
 use Rattle.mm_objects.specs.declared.objects.ObjUnit.{ObjUnit}
-use Rattle.mm_objects.specs.Resolution.{resolve}
 use Rattle.mm_machines.specs.declared.target.Target.{Target}
 use Rattle.mm_machines.specs.declared.target.VtableId.{VtableId}
 use Rattle.mm_machines.specs.Forms.{Shape, Find, Eval, Act, local, number, boolean, copy, move, negation, binary, set, print, goto, unreachable, switch, call, return}
-use Rattle.mm_machines.specs.Runs.{Code, placed_at, or_nowhere, observed}
-use Rattle.mm_machines.specs.Demand.{Table, function_of, body_of, shape_of, callee_in, demand_place, demand_operand, demand_rvalue, demand_statement, demand_call, demand_end, demand_block, demand}
-use Rattle.mm_machines.specs.Image.{def_at, code_of, def_shape, target_of, find_in, image_place, image_operand, image_rvalue, image_instr, call_found, image_call, image_end, image_block, image}
-use Rattle.mm_machines.specs.Compiled.{compiled_place, compiled_operand, compiled_rvalue, compiled_statement, compiled_call, compiled_end, compiled_block, definition_of, IsOf, StandsAt, Resolves, AllResolve}
+use Rattle.mm_machines.specs.Demand.{Table, function_of, shape_of, callee_in, demand_place, demand_operand, demand_rvalue, demand_statement, demand_end}
+use Rattle.mm_machines.specs.Image.{def_at, def_shape, target_of, find_in, image_place, image_operand, image_rvalue, image_instr, call_found, image_end}
+use Rattle.mm_machines.specs.Compiled.{compiled_place, compiled_operand, compiled_rvalue, compiled_statement, compiled_end, StandsAt, Resolves}
 use Rattle.mm_machines.proofs.Renaming.{Renaming}
 use Rattle.mm_machines.proofs.FormLaws.{SameFind, SameEval, SameEvals, SameAct, state_renamed, local_law, number_law, boolean_law, copy_law, move_law, negation_law, binary_law, set_law, print_law, goto_law, unreachable_law, switch_law, call_law, return_law}
 use Rattle.mm_machines.proofs.Places.{resolved_stands}
@@ -226,7 +219,7 @@ module _ (symbol : Item → List ℕ) (p : Program) (us : List ObjUnit) where
     on_right = return_law Both BothTables Item Table right;
   }
 
-  unreachable_joint : JointAct (unreachable Target VtableId) (unreachable Item Table)
+  pub unreachable_joint : JointAct (unreachable Target VtableId) (unreachable Item Table)
   unreachable_joint = record {
     both = unreachable Both BothTables;
     on_left = unreachable_law Both BothTables Target VtableId left;
@@ -259,9 +252,9 @@ module _ (symbol : Item → List ℕ) (p : Program) (us : List ObjUnit) where
       record {
         both = call Both BothTables q shape js.both i.both label;
         on_left = λ s.
-          call_law Both BothTables Target VtableId left q shape js.both es i.both f label js.on_left i.on_left s
-          ∙ ap (λ n. call Target VtableId q.target n es f label (state_renamed Both BothTables Target VtableId left s)) (sym (shape_law q))
-          ∙ ap (λ o. call_found us (option_map target_of o) es f label (state_renamed Both BothTables Target VtableId left s)) (sym res.1);
+            call_law Both BothTables Target VtableId left q shape js.both es i.both f label js.on_left i.on_left s
+            ∙ ap (λ n. call Target VtableId q.target n es f label (state_renamed Both BothTables Target VtableId left s)) (sym (shape_law q))
+            ∙ ap (λ o. call_found us (option_map target_of o) es f label (state_renamed Both BothTables Target VtableId left s)) (sym res.1);
         on_right = call_law Both BothTables Item Table right q shape js.both ds i.both g label js.on_right i.on_right;
       }
 

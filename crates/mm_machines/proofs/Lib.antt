@@ -4,3 +4,5 @@ pub mod FormLaws
 pub mod RunLaws
 pub mod Places
 pub mod Joint
+pub mod Named
+pub mod Simulation

@@ -1,16 +1,15 @@
 -- Memory with other names for functions and tables: what is found, made, read and written is renamed.
-use Rattle.std.specs.Prelude.{◌≡◌, ℕ, zero, suc, ◌+◌, Bool, true, false, cond, List, [], ◌∷◌, map, Result, Ok, Err, Option, None, Some, nat_eq}
+use Rattle.std.specs.Prelude.{◌≡◌, ℕ, zero, suc, ◌+◌, Bool, true, false, cond, List, [], ◌∷◌, map, Ok, Option, None, Some, nat_eq}
 use Rattle.std.specs.Option.{option_map}
 use Rattle.std.proofs.Common.{◌∙◌, refl, sym, ap}
-use Rattle.mm_machines.specs.declared.trap.Trap.{Trap}
 use Rattle.mm_machines.specs.declared.trap.Trap.TheVariants as trap
 use Rattle.mm_machines.specs.declared.value.Address.{Address}
 use Rattle.mm_machines.specs.declared.value.Block.{Block}
 use Rattle.mm_machines.specs.declared.value.BlockKind.{BlockKind}
 use Rattle.mm_machines.specs.declared.value.BlockKind.TheVariants.{Local}
 use Rattle.mm_machines.specs.declared.value.Value.{Value}
-use Rattle.mm_machines.specs.Values.{then_do, checked, found_or, fits, walk, replaced}
-use Rattle.mm_machines.specs.Memory.{Memory, no_blocks, with_block, with_made, with_locals, freed, read, written}
+use Rattle.mm_machines.specs.Values.{checked, fits}
+use Rattle.mm_machines.specs.Memory.{Memory, with_block, with_made, with_locals, freed, read, written}
 use Rattle.mm_machines.proofs.Renaming.{Renaming, carry, bind_law, checked_law, found_or_law, renamed, walk_law, replaced_law, fits_law}
 
 cond_law : {A B : Type 0} (f : A → B) (b : Bool) (x y : A) → f (cond b x y) ≡ cond b (f x) (f y)

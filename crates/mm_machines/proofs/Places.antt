@@ -1,10 +1,9 @@
 -- Where definitions stand: what a reference names stands at its place.
-use Rattle.std.specs.Prelude.{◌≡◌, ℕ, zero, suc, ◌+◌, ◌<◌, Bool, true, false, cond, List, [], ◌∷◌, ◌++◌, map, flat_map, All, Option, None, Some, slice_get, length, IfSome}
-use Rattle.std.specs.List.{enumerate_from, find, Contains}
+use Rattle.std.specs.Prelude.{◌≡◌, ℕ, suc, ◌+◌, Bool, true, false, cond, List, [], ◌∷◌, flat_map, All, Option, None, Some, slice_get, IfSome}
+use Rattle.std.specs.List.{enumerate_from, find}
 use Rattle.std.specs.Option.{option_or}
-use Rattle.std.proofs.Common.{◌∙◌, refl, sym, ap, arith, subst}
-use Rattle.std.proofs.lemmas.List.Elements.{All-nil, All-cons, All-head, All-tail, All-append, All-map, All-weaker}
-use Rattle.mm_objects.specs.declared.objects.ObjDef.{ObjDef}
+use Rattle.std.proofs.Common.{◌∙◌, refl, ap, arith, subst}
+use Rattle.std.proofs.lemmas.List.Elements.{All-nil, All-cons, All-head, All-tail, All-append, All-map}
 use Rattle.mm_objects.specs.declared.objects.ObjUnit.{ObjUnit}
 use Rattle.mm_objects.specs.Resolution.{Placed, placed, placed_in, is_own, is_shared, resolve}
 use Rattle.mm_machines.specs.Image.{def_in, def_at, target_of}

@@ -1,7 +1,6 @@
 -- Values with other names for functions and tables. No form looks at a name, so what is made of renamed values is renamed.
-use Rattle.std.specs.Prelude.{◌≡◌, ℕ, ◌+◌, ◌*◌, Bool, true, false, cond, not, ◌&&◌, List, [], ◌∷◌, map, sum, Result, Ok, Err, Option, None, Some, nat_eq, nat_lt, nat_le, slice_get, slice_set}
+use Rattle.std.specs.Prelude.{◌≡◌, ℕ, ◌+◌, ◌*◌, Bool, true, false, not, ◌&&◌, List, [], ◌∷◌, map, Result, Ok, Err, Option, None, Some, nat_eq, nat_lt, nat_le, slice_get, slice_set}
 use Rattle.std.specs.Option.{option_map}
-use Rattle.std.specs.List.{list_all}
 use Rattle.std.proofs.Math.Bool.{beq}
 use Rattle.std.proofs.Common.{◌∙◌, refl, sym, ap, subst}
 use Rattle.std.proofs.lemmas.List.{map-set}

@@ -1,6 +1,6 @@
 -- Runs with other names: where what stands at each place does the same, the same is seen.
-use Rattle.std.specs.Prelude.{◌≡◌, ℕ, zero, suc, List, [], ◌∷◌, replicate}
-use Rattle.std.proofs.Common.{◌∙◌, refl, sym, ap}
+use Rattle.std.specs.Prelude.{◌≡◌, ℕ, zero, suc, [], replicate}
+use Rattle.std.proofs.Common.{◌∙◌, refl, ap}
 use Rattle.mm_machines.specs.declared.trap.Obs.{Obs}
 use Rattle.mm_machines.specs.Values.{uninit}
 use Rattle.mm_machines.specs.Memory.{no_blocks, with_locals}

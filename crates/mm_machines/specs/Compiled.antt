@@ -1,5 +1,5 @@
 -- What an item is compiled to: its body, in which each item that is called is written as its symbol.
-use Rattle.std.specs.Prelude.{◌≡◌, ℕ, List, [], map, Option, None, Some}
+use Rattle.std.specs.Prelude.{◌≡◌, ℕ, List, map, Some}
 use Rattle.std.specs.List.{Contains}
 use Rattle.mm_terms.specs.declared.item.Item.{Item}
 use Rattle.mm_collect.specs.Uses.{candidates_of}

@@ -2,7 +2,7 @@
 -- each call instantiates its callee there and then. It knows nothing of sets of items, of units and of symbols.
 use Rattle.std.specs.Prelude.{ℕ, List, [], map, length, Option, None, Some, slice_get}
 use Rattle.mm_terms.specs.declared.item.Item.{Item}
-use Rattle.mm_terms.specs.declared.item.Item.TheVariants.{Fn, Glue, Shim, Static}
+use Rattle.mm_terms.specs.declared.item.Item.TheVariants.{Fn}
 use Rattle.mm_terms.specs.declared.tree.Tree.{Tree}
 use Rattle.mm_terms.specs.Substitution.{subst_all}
 use Rattle.mm_collect.specs.declared.program.Block.{Block}

@@ -1,6 +1,6 @@
 -- What each form does. Operands, rvalues, statements and ends are put together from these, in both machines: a machine
 -- says where the form comes from, and which function is called.
-use Rattle.std.specs.Prelude.{◌≡◌, ℕ, zero, suc, ◌+◌, ◌-◌, Bool, true, false, List, [], ◌∷◌, ◌++◌, map, length, replicate, Result, Ok, Err, Option, None, Some, nat_eq, nat_lt, if◌then◌else◌}
+use Rattle.std.specs.Prelude.{ℕ, ◌+◌, ◌-◌, Bool, true, false, List, [], ◌∷◌, ◌++◌, length, replicate, Result, Ok, Err, nat_eq, nat_lt, if◌then◌else◌}
 use Rattle.mm_collect.specs.declared.program.Arm.{Arm}
 use Rattle.mm_collect.specs.declared.program.Op.{Op}
 use Rattle.mm_machines.specs.declared.frame.Caller.{Caller}

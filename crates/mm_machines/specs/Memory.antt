@@ -1,11 +1,11 @@
 -- Memory: blocks, each under a number of its own. A number is never used again, also when its block is freed.
-use Rattle.std.specs.Prelude.{◌≡◌, ℕ, zero, suc, ◌+◌, Bool, cond, List, [], ◌∷◌, Result, Ok, Err, Option, None, Some, nat_eq}
+use Rattle.std.specs.Prelude.{ℕ, zero, suc, ◌+◌, cond, List, [], ◌∷◌, Result, Ok, Option, None, Some, nat_eq}
 use Rattle.mm_machines.specs.declared.trap.Trap.{Trap}
 use Rattle.mm_machines.specs.declared.trap.Trap.TheVariants as trap
 use Rattle.mm_machines.specs.declared.value.Address.{Address}
 use Rattle.mm_machines.specs.declared.value.Block.{Block}
 use Rattle.mm_machines.specs.declared.value.BlockKind.{BlockKind}
-use Rattle.mm_machines.specs.declared.value.BlockKind.TheVariants.{Local, Boxed, Static}
+use Rattle.mm_machines.specs.declared.value.BlockKind.TheVariants.{Local}
 use Rattle.mm_machines.specs.declared.value.Value.{Value}
 use Rattle.mm_machines.specs.Values.{then_do, checked, found_or, fits, walk, replaced}
 

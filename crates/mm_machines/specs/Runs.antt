@@ -1,11 +1,9 @@
 -- Runs: one step after another, and what is seen.
-use Rattle.std.specs.Prelude.{◌≡◌, ℕ, zero, suc, List, [], ◌∷◌, length, replicate, Option, None, Some}
-use Rattle.mm_machines.specs.declared.frame.Frame.{Frame}
-use Rattle.mm_machines.specs.declared.trap.Ended.{Ended}
+use Rattle.std.specs.Prelude.{ℕ, zero, suc, [], replicate, Option, None, Some}
 use Rattle.mm_machines.specs.declared.trap.Ended.TheVariants as ended
 use Rattle.mm_machines.specs.declared.trap.Obs.{Obs}
 use Rattle.mm_machines.specs.Values.{uninit}
-use Rattle.mm_machines.specs.Memory.{Memory, no_blocks, with_locals}
+use Rattle.mm_machines.specs.Memory.{no_blocks, with_locals}
 use Rattle.mm_machines.specs.Forms.{Shape, State, Turn, Turn.On, Turn.Over, Act, unreachable, started}
 
 module _ (F V : Type 0) where

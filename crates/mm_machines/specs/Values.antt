@@ -1,5 +1,5 @@
 -- Values: kinds, parts, and what is made of values. A reading that meets another kind traps.
-use Rattle.std.specs.Prelude.{◌≡◌, ℕ, zero, suc, ◌+◌, ◌-◌, ◌*◌, ◌/◌, ◌%◌, ◌^◌, max, Bool, true, false, cond, not, ◌&&◌, List, [], ◌∷◌, map, sum, Result, Ok, Err, Option, None, Some, nat_eq, nat_lt, nat_le, slice_get, slice_set}
+use Rattle.std.specs.Prelude.{ℕ, ◌+◌, ◌-◌, ◌*◌, ◌/◌, ◌%◌, ◌^◌, max, Bool, true, false, cond, not, ◌&&◌, List, [], ◌∷◌, sum, Result, Ok, Err, Option, None, Some, nat_eq, nat_lt, nat_le, slice_get, slice_set}
 use Rattle.std.specs.List.{list_all}
 use Rattle.std.proofs.Math.Bool.{beq}
 use Rattle.mm_collect.specs.declared.program.Op.{Op}
@@ -9,7 +9,7 @@ use Rattle.mm_machines.specs.declared.trap.Trap.TheVariants as trap
 use Rattle.mm_machines.specs.declared.value.Part.{Part}
 use Rattle.mm_machines.specs.declared.value.Part.TheVariants.{Field, Variant}
 use Rattle.mm_machines.specs.declared.value.Value.{Value}
-use Rattle.mm_machines.specs.declared.value.Value.TheOpen.{Value-F, Num, Truth, Agg, Var, Ptr, Fat, Fun, Uninit}
+use Rattle.mm_machines.specs.declared.value.Value.TheOpen.{Value-F, Num, Truth, Agg, Var, Uninit}
 use Rattle.mm_machines.specs.declared.value.Value.TheViews.{out-Value, roll-Value}
 use Rattle.mm_machines.specs.declared.value.Value.TheFolds.{fold-Value}
 

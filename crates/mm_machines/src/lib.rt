@@ -2,6 +2,7 @@
 #![tactic(auto)]
 
 mod frame;
+pub mod laws;
 mod target;
 mod trap;
 mod value;

@@ -13,7 +13,7 @@ use Rattle.mm_machines.specs.declared.trap.Trap.TheVariants as trap
 use Rattle.mm_machines.specs.declared.value.Address.{Address}
 use Rattle.mm_machines.specs.declared.value.Value.{Value}
 use Rattle.mm_machines.specs.Values.{then_do, checked, num, truth, uninit, number_of, choice_of, negated, applied, is_whole}
-use Rattle.mm_machines.specs.Memory.{Memory, read, written, with_locals, freed}
+use Rattle.mm_machines.specs.Memory.{Blocks, read, written, with_locals, freed}
 
 -- how many parameters and locals a function has. The locals are the result, the parameters and the others
 pub record Shape : Type 0 where
@@ -27,7 +27,7 @@ module _ (F V : Type 0) where
     pub top : Frame F
     -- those that wait, the latest first
     pub below : List (Caller F)
-    pub memory : Memory F V
+    pub memory : Blocks F V
     pub printed : List ℕ
 
   -- what a step leads to: the run goes on, or it is over, and then this was printed
@@ -37,11 +37,11 @@ module _ (F V : Type 0) where
 
   -- finds a place, given the locals
   abbrev pub Find : Type 0
-  Find = Window → Memory F V → Result Address Trap
+  Find = Window → Blocks F V → Result Address Trap
 
   -- makes a value, which may take one out of memory
   abbrev pub Eval : Type 0
-  Eval = Window → Memory F V → Result (Value F V × Memory F V) Trap
+  Eval = Window → Blocks F V → Result (Value F V × Blocks F V) Trap
 
   abbrev pub Act : Type 0
   Act = State → Turn
@@ -60,7 +60,7 @@ module _ (F V : Type 0) where
   boolean b w m = Ok (truth F V b, m)
 
   -- the value at an address, where each of its cells has one
-  abbrev pub whole_at : Address → Memory F V → Result (Value F V) Trap
+  abbrev pub whole_at : Address → Blocks F V → Result (Value F V) Trap
   whole_at a m = then_do (read F V a m) (λ v. checked (is_whole F V v) trap.Uninit (Ok v))
 
   abbrev pub copy : Find → Eval
@@ -70,7 +70,7 @@ module _ (F V : Type 0) where
   move find w m = then_do (find w m) (λ a. then_do (whole_at a m) (λ v. then_do (written F V a (uninit F V) m) (λ n. Ok (v, n))))
 
   -- operands from left to right
-  abbrev pub all_of : List Eval → Window → Memory F V → Result (List (Value F V) × Memory F V) Trap
+  abbrev pub all_of : List Eval → Window → Blocks F V → Result (List (Value F V) × Blocks F V) Trap
   all_of [] w m = Ok ([], m)
   all_of (e ∷ es) w m = then_do (e w m) (λ v. then_do (all_of es w v.1) (λ vs. Ok (v.0 ∷ vs.0, vs.1)))
 
@@ -97,11 +97,11 @@ module _ (F V : Type 0) where
   abbrev pub at_next : Frame F → Frame F
   at_next f = record f { index = f.index + 1 }
 
-  abbrev pub with_memory : Memory F V → State → State
+  abbrev pub with_memory : Blocks F V → State → State
   with_memory m s = record s { memory = m }
 
   -- goes on at the next place, with this memory
-  abbrev pub next : Memory F V → State → State
+  abbrev pub next : Blocks F V → State → State
   next m s = record s { top = at_next s.top; memory = m }
 
   -- goes on at the start of a block
@@ -109,14 +109,14 @@ module _ (F V : Type 0) where
   jumped label s = record s { top = at_block label s.top }
 
   -- makes a value, then finds a place, then writes the value into it
-  abbrev pub assigned : Find → Eval → Window → Memory F V → Result (Memory F V) Trap
+  abbrev pub assigned : Find → Eval → Window → Blocks F V → Result (Blocks F V) Trap
   assigned find e w m = then_do (e w m) (λ v. then_do (find w v.1) (λ a. written F V a v.0 v.1))
 
   abbrev pub set : Find → Eval → Act
   set find e s = or_trap (assigned find e s.top.locals s.memory) s (λ m. On (next m s))
 
   -- makes a number
-  abbrev pub number_from : Eval → Window → Memory F V → Result (ℕ × Memory F V) Trap
+  abbrev pub number_from : Eval → Window → Blocks F V → Result (ℕ × Blocks F V) Trap
   number_from e w m = then_do (e w m) (λ v. then_do (number_of F V v.0) (λ n. Ok (n, v.1)))
 
   abbrev pub print : Eval → Act
@@ -138,7 +138,7 @@ module _ (F V : Type 0) where
   arm_for n (arm ∷ arms) other = if nat_eq n arm.number then arm.label else arm_for n arms other
 
   -- makes a value, and chooses by it
-  abbrev pub choice_from : Eval → Window → Memory F V → Result (ℕ × Memory F V) Trap
+  abbrev pub choice_from : Eval → Window → Blocks F V → Result (ℕ × Blocks F V) Trap
   choice_from e w m = then_do (e w m) (λ v. then_do (choice_of F V v.0) (λ n. Ok (n, v.1)))
 
   abbrev pub switch : Eval → List Arm → ℕ → Act
@@ -151,16 +151,16 @@ module _ (F V : Type 0) where
   locals_for shape vs = uninit F V ∷ (vs ++ replicate (shape.locals - 1 - shape.params) (uninit F V))
 
   -- a function at its start, whose locals are made next
-  abbrev pub started : F → ℕ → Memory F V → Frame F
+  abbrev pub started : F → ℕ → Blocks F V → Frame F
   started f count m = record { function = f; block = 0; index = 0; locals = record { first = m.next; count = count } }
 
   -- what a call hands over: the operands, and then where the result goes
   pub record Handed : Type 0 where
     pub values : List (Value F V)
     pub dest : Address
-    pub memory : Memory F V
+    pub memory : Blocks F V
 
-  abbrev pub handed : List Eval → Find → Window → Memory F V → Result Handed Trap
+  abbrev pub handed : List Eval → Find → Window → Blocks F V → Result Handed Trap
   handed es find w m = then_do (all_of es w m) (λ vs. then_do (find w vs.1) (λ a. Ok (record { values = vs.0; dest = a; memory = vs.1 })))
 
   -- the function starts, and the one that runs waits for it, to go on at the label
@@ -182,7 +182,7 @@ module _ (F V : Type 0) where
       fitting (nat_eq (length h.values) shape.params) (entered f (locals_for shape h.values) label h s) s)
 
   -- the value of the result as it is is taken, the locals are freed, and the value is written where the caller wants it
-  abbrev pub handed_back : Window → Address → Memory F V → Result (Memory F V) Trap
+  abbrev pub handed_back : Window → Address → Blocks F V → Result (Blocks F V) Trap
   handed_back w dest m = then_do (local 0 w m) (λ a. then_do (read F V a m) (λ v. written F V dest v (freed F V w.first w.count m)))
 
   abbrev pub back_to : List (Caller F) → Act

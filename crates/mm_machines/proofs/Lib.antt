@@ -6,3 +6,4 @@ pub mod Places
 pub mod Joint
 pub mod Named
 pub mod Simulation
+pub mod Locals

@@ -5,3 +5,4 @@ pub mod Runs
 pub mod Demand
 pub mod Image
 pub mod Compiled
+pub mod Answers

@@ -48,3 +48,7 @@ module _ (F V : Type 0) where
       then_do (found_or trap.Dangling (m.found a.block)) (λ block.
       then_do (replaced F V v a.path block.value) (λ w.
       checked (fits F V w) trap.TooBig (Ok (with_block a.block (Some (record block { value = w })) m))))
+
+-- a block as a whole, as an address
+abbrev pub whole_block : ℕ → Address
+whole_block n = record { block = n; path = [] }

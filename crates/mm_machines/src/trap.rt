@@ -23,6 +23,13 @@ pub enum Trap {
     TooBig,
 }
 
+/// Why code gives no answer.
+#[derive(Clone, Copy, Debug, PartialEq, Eq, Hash)]
+pub enum Halt {
+    Trap(Trap),
+    NoMemory,
+}
+
 /// How a run stands.
 #[derive(Clone, Copy, Debug, PartialEq, Eq, Hash)]
 pub enum Ended {

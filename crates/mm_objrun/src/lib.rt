@@ -2,7 +2,9 @@
 #![tactic(auto)]
 
 mod cells;
+mod machine;
 mod names;
 mod operands;
+mod statements;
 
 pub use names::Names;

@@ -1,5 +1,5 @@
 -- What the code of a run answers, by what the image machine does.
-use Rattle.std.specs.Prelude.{◌≡◌, ℕ, List, map, reverse, Result, Ok, Err, Option, None, Some, ⊤}
+use Rattle.std.specs.Prelude.{◌≡◌, ℕ, List, ◌∷◌, ◌++◌, map, replicate, reverse, Result, Ok, Err, Option, None, Some, ⊤}
 use Rattle.mm_machines.specs.declared.frame.Caller.{Caller}
 use Rattle.mm_machines.specs.declared.target.Target.{Target}
 use Rattle.mm_machines.specs.declared.target.VtableId.{VtableId}
@@ -12,6 +12,7 @@ use Rattle.mm_machines.specs.declared.value.Value.{Value}
 use Rattle.mm_machines.specs.Answers.{blocks_of}
 use Rattle.mm_machines.specs.Forms.{Handed, State, Turn, Turn.On, Turn.Over}
 use Rattle.mm_machines.specs.Memory.{Blocks, whole_block}
+use Rattle.mm_machines.specs.Values.{uninit}
 use Rattle.mm_objrun.specs.declared.machine.Handing.{Handing}
 use Rattle.mm_objrun.specs.declared.machine.Machine.{Machine}
 use Rattle.mm_objrun.specs.declared.machine.Waiting.{Waiting}
@@ -67,3 +68,7 @@ Leads (Some e) new turn = turn ≡ Over e new.printed
 abbrev pub Steps : {E : Type 0} → Result (Option Ended) E → State Target VtableId → Turn Target VtableId → Type 0
 Steps (Ok over) new turn = Leads over new turn
 Steps (Err e) new turn = ⊤
+
+-- the locals of a function: the result without a value, the arguments, and so many others without a value
+abbrev pub set_up : List (Value Target VtableId) → ℕ → List (Value Target VtableId)
+set_up vs more = uninit Target VtableId ∷ (vs ++ replicate more (uninit Target VtableId))

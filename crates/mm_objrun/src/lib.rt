@@ -1,6 +1,7 @@
 //! Runs an image of objects, step by step.
 #![tactic(auto)]
 
+mod calls;
 mod cells;
 mod machine;
 mod names;

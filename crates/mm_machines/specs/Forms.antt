@@ -20,6 +20,11 @@ pub record Shape : Type 0 where
   pub params : ℕ
   pub locals : ℕ
 
+-- the label of the first arm with the number, or else the other
+abbrev pub arm_for : ℕ → List Arm → ℕ → ℕ
+arm_for n [] other = other
+arm_for n (arm ∷ arms) other = if nat_eq n arm.number then arm.label else arm_for n arms other
+
 module _ (F V : Type 0) where
   -- a run, between two steps
   pub record State : Type 0 where
@@ -131,11 +136,6 @@ module _ (F V : Type 0) where
 
   abbrev pub unreachable : Act
   unreachable = trapped trap.Unreachable
-
-  -- the label of the first arm with the number, or else the other
-  abbrev pub arm_for : ℕ → List Arm → ℕ → ℕ
-  arm_for n [] other = other
-  arm_for n (arm ∷ arms) other = if nat_eq n arm.number then arm.label else arm_for n arms other
 
   -- makes a value, and chooses by it
   abbrev pub choice_from : Eval → Window → Blocks F V → Result (ℕ × Blocks F V) Trap

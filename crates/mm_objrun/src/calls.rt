@@ -1,6 +1,6 @@
 ghost use Rattle.std.specs.Prelude.{◌≡◌, ◌+◌, ◌-◌, ◌<◌, IfOk, OnOk, length, map, option_copied};
 ghost use Rattle.mm_machines.specs.Answers.{blocks_of};
-ghost use Rattle.mm_machines.specs.Forms.{back_to, call as calling, Shape, entered, handed, handed_back, locals_for, started};
+ghost use Rattle.mm_machines.specs.Forms.{call as calling, return as returning, Shape, entered, handed, handed_back, locals_for, started};
 ghost use Rattle.mm_machines.specs.Image.{call_found, def_at as def_there, def_shape, image_call, image_operand, image_place};
 ghost use Rattle.mm_machines.specs.Memory.{whole_block, with_locals};
 ghost use Rattle.mm_machines.specs.declared.target.Target.{Target};
@@ -140,5 +140,67 @@ impl Machine {
             dest: h.dest,
         })?;
         Ok(())
+    }
+
+    /// Calls a function, where what it is handed fits.
+    fn call_at(
+        &mut self,
+        alloc: Global,
+        units: &[ObjUnit],
+        target: Target,
+        os: &[ObjOperand],
+        place: ObjPlace,
+        label: u32,
+    ) -> Result<Option<Ended>, NoMemory>
+        ensures { Steps result (state_of self.new) (calling Target VtableId target (def_shape (def_there units.now target)) (map (image_operand self.old.top.function) os.now) (image_place self.old.top.function place) label (state_of self.old)) }
+    {
+        let counts = counts_at(units, target);
+        match hand(alloc, &self.top, &mut self.memory, os, place) {
+            Err(Halt::NoMemory) => Err(NoMemory),
+            Err(Halt::Trap(trap)) => Ok(Some(Ended::Trap(trap))),
+            Ok(h) => {
+                if h.values.len() != counts.params as usize {
+                    return Ok(Some(Ended::Trap(Trap::WrongArity)));
+                }
+                self.enter(target, counts, h, label)?;
+                Ok(None)
+            }
+        }
+    }
+
+    /// Makes the step of a call.
+    pub fn call<N: Names>(
+        &mut self,
+        alloc: Global,
+        names: &N,
+        callee: &ObjCallee,
+        os: &[ObjOperand],
+        place: ObjPlace,
+        label: u32,
+    ) -> Result<Option<Ended>, NoMemory>
+        ensures { Steps result (state_of self.new) (image_call (N.units names.now) self.old.top.function callee.now (map (image_operand self.old.top.function) os.now) (image_place self.old.top.function place) label (state_of self.old)) }
+    {
+        let ObjCallee::Fn(symbol) = callee;
+        match names.find(self.top.function.unit, symbol.as_slice()) {
+            None => Ok(Some(Ended::Trap(Trap::Dangling))),
+            Some(target) => self.call_at(alloc, names.units(), target, os, place, label),
+        }
+    }
+
+    /// Makes the step of a return.
+    pub fn leave(&mut self, alloc: Global) -> Result<Option<Ended>, NoMemory>
+        ensures { Steps result (state_of self.new) (returning Target VtableId (state_of self.old)) }
+    {
+        let Some(waiting) = self.below.pop() else {
+            return Ok(Some(Ended::Returned));
+        };
+        match hand_back(alloc, self.top.locals, &mut self.memory, waiting.dest) {
+            Err(Halt::NoMemory) => Err(NoMemory),
+            Err(Halt::Trap(trap)) => Ok(Some(Ended::Trap(trap))),
+            Ok(()) => {
+                self.top = waiting.frame;
+                Ok(None)
+            }
+        }
     }
 }

@@ -7,5 +7,6 @@ mod machine;
 mod names;
 mod operands;
 mod statements;
+mod step;
 
 pub use names::Names;

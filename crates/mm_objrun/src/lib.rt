@@ -6,7 +6,9 @@ mod cells;
 mod machine;
 mod names;
 mod operands;
+mod run;
 mod statements;
 mod step;
 
 pub use names::Names;
+pub use run::run_units;

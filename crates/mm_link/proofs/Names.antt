@@ -30,7 +30,7 @@ pub found_step : (shared : Bool) (unit n : ℕ) (d : ObjDef) (ds : List ObjDef) 
 found_step shared unit n d ds s =
     first_or target_of (passes shared s (placed_at unit (n, d))) (placed_at unit (n, d)) (find (passes shared s) (map (placed_at unit) (enumerate_from (n + 1) ds)))
 
-find_append : {A : Type 0} (p : A → Bool) (xs ys : List A) → find p (xs ++ ys) ≡ option_or (find p xs) (find p ys)
+pub find_append : {A : Type 0} (p : A → Bool) (xs ys : List A) → find p (xs ++ ys) ≡ option_or (find p xs) (find p ys)
 find_append p [] ys = refl
 find_append p (x ∷ xs) ys = ap (cond (p x) (Some x)) (find_append p xs ys) ∙ either (p x) x (find p xs) (find p ys)
   where
@@ -38,7 +38,7 @@ find_append p (x ∷ xs) ys = ap (cond (p x) (Some x)) (find_append p xs ys) ∙
     either true x o q = refl
     either false x o q = refl
 
-map_or : {A X : Type 0} (f : A → X) (o q : Option A) → option_map f (option_or o q) ≡ option_or (option_map f o) (option_map f q)
+pub map_or : {A X : Type 0} (f : A → X) (o q : Option A) → option_map f (option_or o q) ≡ option_or (option_map f o) (option_map f q)
 map_or f None q = refl
 map_or f (Some x) q = refl
 

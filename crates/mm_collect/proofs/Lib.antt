@@ -5,3 +5,5 @@ mod GrowthLemmas
 mod ClosingLemmas
 pub mod VerdictLemmas
 mod FindingLemmas
+pub mod PlainLemmas
+pub mod InstanceLemmas

@@ -4,3 +4,4 @@ pub mod Roots
 pub mod Notes
 pub mod Verdict
 pub mod Finding
+pub mod WellFormed

@@ -1,14 +1,16 @@
 //! Laws of the verdict. Each is proved, and its function does nothing.
 
-ghost use Rattle.std.specs.Prelude.{◌≡◌, ℕ, List};
+ghost use Rattle.std.specs.Prelude.{◌≡◌, ℕ, List, All};
 ghost use Rattle.std.specs.List.Sorted.{IsPermutation};
 ghost use Rattle.mm_terms.specs.declared.item.Item.{Item};
+ghost use Rattle.mm_terms.specs.Closure.{IsMember};
 ghost use Rattle.mm_collect.specs.declared.program.Opts.{Opts};
 ghost use Rattle.mm_collect.specs.declared.program.Program.{Program};
 ghost use Rattle.mm_collect.specs.Finding.{AreInOrder};
 ghost use Rattle.mm_collect.specs.Roots.{roots_of};
-ghost use Rattle.mm_collect.specs.Uses.{uses_of};
+ghost use Rattle.mm_collect.specs.Uses.{candidates_of, uses_of};
 ghost use Rattle.mm_collect.specs.Verdict.{IsAccepted, IsTooLong, IsTooMany};
+ghost use Rattle.mm_collect.specs.WellFormed.{IsInstanceIn, IsWellFormed};
 
 /// The verdict on a program is one: no two kinds of it hold, what is told as too long is one path with one length, and
 /// the items of an accepted program are one set, and in order of finding one list.
@@ -25,4 +27,13 @@ pub fn one_verdict()
         IsAccepted p opts items → IsAccepted p opts others →
         AreInOrder (roots_of p) (uses_of p opts.length) items → AreInOrder (roots_of p) (uses_of p opts.length) others →
         items ≡ others }
+{}
+
+/// The items of a well-formed program are instances of its functions: the roots are, and what an instance uses is, and
+/// so each member is.
+pub fn members_are_instances()
+    ensures roots { (p : Program) → IsWellFormed p → All (IsInstanceIn p) (roots_of p) }
+    ensures used { (p : Program) (x : Item) → IsWellFormed p → IsInstanceIn p x → All (IsInstanceIn p) (candidates_of p x) }
+    ensures members { (p : Program) (limit : ℕ) (x : Item) → IsWellFormed p →
+        IsMember (roots_of p) (uses_of p limit) x → IsInstanceIn p x }
 {}

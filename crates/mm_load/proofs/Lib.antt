@@ -1,6 +1,12 @@
 pub mod AskingLemmas
 pub mod ItemLemmas
 pub mod Judgements
+pub mod KeptLemmas
+pub mod SpelledLemmas
+pub mod FormedLemmas
+pub mod KnownLemmas
+pub mod DefinedLemmas
+pub mod WellFormedLemmas
 pub mod MemberLemmas
 pub mod Places
 pub mod WrittenLemmas

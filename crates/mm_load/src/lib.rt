@@ -19,6 +19,7 @@ mod bodies;
 mod double_name;
 mod functions;
 mod index;
+pub mod laws;
 mod load_error;
 mod long_type;
 mod program;

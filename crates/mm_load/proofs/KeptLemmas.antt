@@ -1,0 +1,42 @@
+-- What follows where no place is told: nothing is told of any part.
+use Rattle.std.proofs.Common.{◌≡◌, List, [], ◌∷◌, ◌++◌, Bool, true, false, not, Option, None, Some, refl}
+use Rattle.std.specs.Prelude.{All, is_none}
+use Rattle.std.specs.List.{flat_map}
+use Rattle.std.proofs.lemmas.List.Elements.{All-nil, All-cons, All-head, All-tail, All-append}
+use Rattle.mm_lex.specs.declared.token.Place.{Place}
+use Rattle.mm_load.specs.Rules.{place_if}
+
+pub none_both : {A : Type 0} (xs ys : List A) → xs ++ ys ≡ [] → (xs ≡ []) × (ys ≡ [])
+none_both [] ys h = (refl, h)
+none_both (x ∷ xs) ys h = cc
+
+pub none_each : {A B : Type 0} (f : A → List B) (xs : List A) → flat_map f xs ≡ [] → All (λ x. f x ≡ []) xs
+none_each f [] h = All-nil (λ x. f x ≡ [])
+none_each f (x ∷ xs) h =
+    let parts = none_both (f x) (flat_map f xs) h in
+    All-cons (λ x. f x ≡ []) x xs parts.0 (none_each f xs parts.1)
+
+-- a test that tells nothing fails
+pub none_if : (test : Bool) (at : Place) → place_if test at ≡ [] → test ≡ false
+none_if true at h = cc
+none_if false at h = refl
+
+pub none_unless : (test : Bool) (at : Place) → place_if (not test) at ≡ [] → test ≡ true
+none_unless true at h = refl
+none_unless false at h = cc
+
+pub some_of : {A : Type 0} (o : Option A) (at : Place) → place_if (is_none o) at ≡ [] → (x : A) × (o ≡ Some x)
+some_of (Some x) at h = (x, refl)
+some_of None at h = cc
+
+-- what holds of each of a list put together holds of each of its parts
+pub all_parts : {X : Type 0} (P : X → Type 0) (xs ys : List X) → All P (xs ++ ys) → All P xs × All P ys
+all_parts P [] ys all = (All-nil P, all)
+all_parts P (x ∷ xs) ys all =
+    let rest = all_parts P xs ys (All-tail P x (xs ++ ys) all) in
+    (All-cons P x xs (All-head P x (xs ++ ys) all) rest.0, rest.1)
+
+pub All-flat_map : {X Y : Type 0} (P : Y → Type 0) (f : X → List Y) (xs : List X) → All (λ x. All P (f x)) xs → All P (flat_map f xs)
+All-flat_map P f [] all = All-nil P
+All-flat_map P f (x ∷ xs) all =
+    All-append P (f x) (flat_map f xs) (All-head (λ x. All P (f x)) x xs all) (All-flat_map P f xs (All-tail (λ x. All P (f x)) x xs all))

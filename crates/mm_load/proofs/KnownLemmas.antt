@@ -1,0 +1,319 @@
+-- What a tree that keeps the rules means, part by part: all that is named is there, and each call fits its callee.
+use Rattle.std.proofs.Common.{◌≡◌, ℕ, suc, ◌+◌, ◌<◌, List, [], ◌∷◌, ◌++◌, length, map, get_or, true, false, cond, Bool, Option, None, Some, refl, sym, ap, ◌∙◌, subst, ⊎_elim, arith, length-append}
+use Rattle.std.specs.Prelude.{All, slice_get, unwrap_or, is_none, nat_lt, nat_eq, not}
+use Rattle.std.specs.List.{flat_map}
+use Rattle.std.specs.Option.{option_map, option_map_or, option_and_then}
+use Rattle.std.specs.Str.{bytes_eq}
+use Rattle.std.proofs.lemmas.Bool.{eqb-true, ltb-false, ltb-true, and_parts}
+use Rattle.std.proofs.lemmas.List.{length-map}
+use Rattle.std.proofs.lemmas.List.Elements.{All-nil, All-cons, All-append, All-map}
+use Rattle.std.proofs.lemmas.Option.{slice_get-map, slice_get_cases}
+use Rattle.mm_lex.specs.declared.token.Place.{Place}
+use Rattle.mm_terms.specs.declared.ty_head.TyHead.TheVariants.{Tuple}
+use Rattle.mm_terms.specs.Tree.{node}
+use Rattle.mm_terms.specs.Formed.{IsFormed-node}
+use Rattle.mm_terms.specs.Substitution.{param_of, ParamsBelow, ParamsBelow-node}
+use Rattle.mm_collect.specs.declared.program.Program.{Program}
+use Rattle.mm_collect.specs.declared.program.Function as made
+use Rattle.mm_collect.specs.WellFormed.{NamesNone, NamesNoDefinition, IsTypeUnder, IsPlaceOf, IsLabelOf, IsOperandOf, IsRvalueOf, IsStatementOf, IsCallIn, IsEndIn, IsBlockIn, IsFunctionIn, HasMain}
+use Rattle.mm_collect.proofs.PlainLemmas.{plain-node}
+use Rattle.mm_parse.specs.declared.ast.Crate.{Crate}
+use Rattle.mm_parse.specs.declared.ast.Function.{Function}
+use Rattle.mm_parse.specs.declared.ast.Type as written
+use Rattle.mm_parse.specs.declared.ast.Head.{Head}
+use Rattle.mm_parse.specs.declared.ast.Head.TheVariants as heads
+use Rattle.mm_parse.specs.declared.ast.Block.{Block}
+use Rattle.mm_parse.specs.declared.ast.Statement.{Statement}
+use Rattle.mm_parse.specs.declared.ast.Statement.TheVariants as statements
+use Rattle.mm_parse.specs.declared.ast.Rvalue.{Rvalue}
+use Rattle.mm_parse.specs.declared.ast.Rvalue.TheVariants as rvalues
+use Rattle.mm_parse.specs.declared.ast.Operand.{Operand}
+use Rattle.mm_parse.specs.declared.ast.Operand.TheVariants as operands
+use Rattle.mm_parse.specs.declared.ast.Local.{Local}
+use Rattle.mm_parse.specs.declared.ast.Label.{Label}
+use Rattle.mm_parse.specs.declared.ast.Arm.{Arm}
+use Rattle.mm_parse.specs.declared.ast.Switch.{Switch}
+use Rattle.mm_parse.specs.declared.ast.End.{End}
+use Rattle.mm_parse.specs.declared.ast.End.TheVariants as ends
+use Rattle.mm_parse.specs.declared.ast.Call.{Call}
+use Rattle.mm_load.specs.Meaning.{place_in, head_in, type_of, types_of, result_of, place_of_local, operand_of, rvalue_of, statement_of, arm_of, call_of, end_of, block_of, locals_of, function_in, function_of}
+use Rattle.mm_load.specs.Names.{Names, place_of, path_named, main_path, names_in}
+use Rattle.mm_load.specs.Rules.{place_if, of_call, unknown_head, unknown_in_type, unknown_in_types, unknown_local, unknown_label, unknown_in_operand, unknown_in_operands, unknown_in_rvalue, unknown_in_statement, unknown_in_statements, unknown_in_arms, unknown_in_switch, unknown_in_call, unknown_in_end, unknown_in_block, unknown_in_blocks, unknown_in_scope, function_at, fits, misfit_call, misfit_block, misfits_in_function, is_bare, bad_main}
+use Rattle.mm_load.specs.WrittenItem.{Defined, paths_to}
+use Rattle.mm_load.specs.WrittenType.{written_node, written_fold-node, written_ind}
+use Rattle.mm_load.proofs.AskingLemmas.{flat_map-map}
+use Rattle.mm_load.proofs.FormedLemmas.{IsFormedType, IsFormedEnd, IsFormedFunction}
+use Rattle.mm_load.proofs.KeptLemmas.{none_both, none_each, none_if, none_unless, some_of}
+
+-- ---- where names lead
+
+suc_of : (o : Option ℕ) (k : ℕ) → option_map suc o ≡ Some k → (j : ℕ) × (o ≡ Some j) × (k ≡ suc j)
+suc_of None k h = cc
+suc_of (Some j) k h = (j, refl, cc)
+
+first_low : (here : Bool) (later : Option ℕ) (n k : ℕ) → ((j : ℕ) → later ≡ Some j → j < n) → cond here (Some 0) (option_map suc later) ≡ Some k → k < n + 1
+first_low true later n k low h = let is : 0 ≡ k = cc in omega (arith, is)
+first_low false later n k low h = let at = suc_of later k h in omega (arith, at.2, low at.0 at.1)
+
+-- a name leads to a place in the list
+pub place_low : (names : List (List ℕ)) (name : List ℕ) (k : ℕ) → place_of names name ≡ Some k → k < length names
+place_low [] name k h = cc
+place_low (n ∷ ns) name k h =
+    let low = first_low (bytes_eq name n) (place_of ns name) (length ns) k (place_low ns name) h in
+    omega (arith, low)
+
+found : {X : Type 0} (xs : List X) (i : ℕ) → i < length xs → (x : X) × (slice_get xs i ≡ Some x)
+found xs i within = ⊎_elim (λ here. (here.0, here.2)) (λ past. absurd (omega (arith, within, past.0))) (slice_get_cases xs i).1
+
+-- ---- types
+
+module _ (scope : Names) (n : ℕ) (low : (name : List ℕ) (k : ℕ) → scope name ≡ Some k → k < n) where
+  head_low : (at : Place) (head : Head) → unknown_head scope at head ≡ [] → All (λ i. i < n) (param_of (head_in scope head))
+  head_low at (heads.Param name) none =
+      let is = some_of (scope name) at none in
+      All-cons (λ i. i < n) (place_in scope name) [] (subst (λ o. unwrap_or o 0 < n) (sym is.1) (low name is.0 is.1)) (All-nil (λ i. i < n))
+  head_low at heads.U64 none = All-nil (λ i. i < n)
+  head_low at heads.Bool none = All-nil (λ i. i < n)
+  head_low at heads.Tuple none = All-nil (λ i. i < n)
+  head_low at heads.Ref none = All-nil (λ i. i < n)
+  head_low at heads.Boxed none = All-nil (λ i. i < n)
+
+  head_plain : (head : Head) → NamesNone (head_in scope head)
+  head_plain (heads.Param name) = tt
+  head_plain heads.U64 = tt
+  head_plain heads.Bool = tt
+  head_plain heads.Tuple = tt
+  head_plain heads.Ref = tt
+  head_plain heads.Boxed = tt
+
+  abbrev Known : written.Type → Type 0
+  Known t = unknown_in_type scope t ≡ [] → ParamsBelow n (type_of scope t) × NamesNoDefinition (type_of scope t)
+
+  known_node : (at : Place) (head : Head) (children : List written.Type) → All Known children → Known (written_node at head children)
+  unfolding unknown_in_type type_of
+  known_node at head children each none =
+      let places = written_fold-node (λ at head below. unknown_head scope at head ++ flat_map (λ places. places) below) at head children in
+      let parts = none_both (unknown_head scope at head) (flat_map (λ places. places) (map (unknown_in_type scope) children)) (sym places ∙ none) in
+      let below = none_each (unknown_in_type scope) children (sym (flat_map-map (λ places. places) (unknown_in_type scope) children) ∙ parts.1) in
+      let is : type_of scope (written_node at head children) ≡ node (head_in scope head) (map (type_of scope) children) = written_fold-node (λ at head children. node (head_in scope head) children) at head children in (
+        subst (ParamsBelow n) (sym is)
+            (ParamsBelow-node n (head_in scope head) (map (type_of scope) children) (head_low at head parts.0)
+            (All-map (ParamsBelow n) (type_of scope) children (λ k d within. (each k d within (below k d within)).0))),
+        subst NamesNoDefinition (sym is)
+            (plain-node (head_in scope head) (map (type_of scope) children) (head_plain head)
+            (All-map NamesNoDefinition (type_of scope) children (λ k d within. (each k d within (below k d within)).1))),
+      )
+
+  type_under : (t : written.Type) → IsFormedType t → unknown_in_type scope t ≡ [] → IsTypeUnder n (type_of scope t)
+  type_under t formed none =
+      let known = written_ind Known known_node t none in
+      record { formed = formed scope; params = known.0; plain = known.1 }
+
+  types_under : (types : List written.Type) → All IsFormedType types → unknown_in_types scope types ≡ [] → All (IsTypeUnder n) (types_of scope types)
+  unfolding unknown_in_types types_of
+  types_under types formed none =
+      let each = none_each (unknown_in_type scope) types none in
+      All-map (IsTypeUnder n) (type_of scope) types (λ k d within. type_under (get_or types k d) (formed k d within) (each k d within))
+
+  unit_under : IsTypeUnder n (node Tuple [])
+  unit_under = record {
+    formed = IsFormed-node Tuple [] (λ none. omega (arith, none)) (λ k d within. absurd (omega (arith, within)));
+    params = ParamsBelow-node n Tuple [] (All-nil (λ i. i < n)) (All-nil (ParamsBelow n));
+    plain = plain-node Tuple [] tt (All-nil NamesNoDefinition);
+  }
+
+  result_under : (result : Option written.Type) → ((t : written.Type) → result ≡ Some t → IsFormedType t) → option_map_or (unknown_in_type scope) result [] ≡ [] → IsTypeUnder n (result_of scope result)
+  unfolding result_of
+  result_under None formed none = unit_under
+  result_under (Some t) formed none = type_under t (formed t refl) none
+
+-- ---- the parts of a body. The function that is made has the locals and the blocks that are written
+
+module _ (w : Function) (f : made.Function) (locals : length f.locals ≡ 1 + (length w.params + length w.lets)) (blocks : length f.blocks ≡ length w.blocks) where
+  known_local : (local : Local) → unknown_local w local ≡ [] → IsPlaceOf f (place_of_local local)
+  known_local local none =
+      let low = ltb-false (length w.params + length w.lets) local.number (none_if (nat_lt (length w.params + length w.lets) local.number) local.at none) in
+      omega (arith, low, locals)
+
+  known_label : (label : Label) → unknown_label w label ≡ [] → IsLabelOf f label.number
+  known_label label none =
+      let low = ltb-true label.number (length w.blocks) (none_unless (nat_lt label.number (length w.blocks)) label.at none) in
+      omega (arith, low, blocks)
+
+  known_operand : (only : Operand) → unknown_in_operand w only ≡ [] → IsOperandOf f (operand_of only)
+  unfolding unknown_in_operand operand_of
+  known_operand (operands.Copy local) none = known_local local none
+  known_operand (operands.Move local) none = known_local local none
+  known_operand (operands.Number n) none = tt
+  known_operand (operands.Bool b) none = tt
+
+  known_operands : (some : List Operand) → unknown_in_operands w some ≡ [] → All (IsOperandOf f) (map operand_of some)
+  unfolding unknown_in_operands
+  known_operands some none =
+      let each = none_each (unknown_in_operand w) some none in
+      All-map (IsOperandOf f) operand_of some (λ k d within. known_operand (get_or some k d) (each k d within))
+
+  known_rvalue : (value : Rvalue) → unknown_in_rvalue w value ≡ [] → IsRvalueOf f (rvalue_of value)
+  unfolding unknown_in_rvalue rvalue_of
+  known_rvalue (rvalues.Use only) none = known_operand only none
+  known_rvalue (rvalues.Not only) none = known_operand only none
+  known_rvalue (rvalues.Binary op left right) none =
+      let parts = none_both (unknown_in_operand w left) (unknown_in_operand w right) none in
+      (known_operand left parts.0, known_operand right parts.1)
+
+  known_statement : (one : Statement) → unknown_in_statement w one ≡ [] → IsStatementOf f (statement_of one)
+  unfolding unknown_in_statement statement_of
+  known_statement (statements.Set local value) none =
+      let parts = none_both (unknown_local w local) (unknown_in_rvalue w value) none in
+      (known_local local parts.0, known_rvalue value parts.1)
+  known_statement (statements.Print only) none = known_operand only none
+
+  known_statements : (some : List Statement) → unknown_in_statements w some ≡ [] → All (IsStatementOf f) (map statement_of some)
+  unfolding unknown_in_statements
+  known_statements some none =
+      let each = none_each (unknown_in_statement w) some none in
+      All-map (IsStatementOf f) statement_of some (λ k d within. known_statement (get_or some k d) (each k d within))
+
+  known_arms : (arms : List Arm) → unknown_in_arms w arms ≡ [] → All (λ arm. IsLabelOf f arm.label) (map arm_of arms)
+  unfolding unknown_in_arms arm_of
+  known_arms arms none =
+      let each = none_each (λ arm. unknown_label w arm.label) arms none in
+      All-map (λ arm. IsLabelOf f arm.label) arm_of arms (λ k d within. known_label (get_or arms k d).label (each k d within))
+
+  -- the calls lead to functions of the program
+  module _ (p : Program) (functions : List Defined) (are : p.functions ≡ map (function_of (paths_to functions)) functions) where
+    abbrev paths : Names
+    paths = paths_to functions
+
+    named_at : (k : ℕ) (d : Defined) → slice_get functions k ≡ Some d → slice_get p.functions k ≡ Some (function_of paths d)
+    named_at k d at =
+        ap (λ fs. slice_get fs k) are ∙ slice_get-map (function_of paths) functions k ∙ ap (option_map (function_of paths)) at
+
+    -- where a path leads
+    led : (path : List ℕ) (k : ℕ) → paths path ≡ Some k → (d : Defined) × (slice_get functions k ≡ Some d)
+    led path k leads =
+        let low = place_low (map (λ d. d.path) functions) path k leads in
+        found functions k (omega (arith, low, length-map functions (λ (d : Defined). d.path)))
+
+    fitting : (call : Call) (k : ℕ) (d : Defined) → paths (path_named call.callee) ≡ Some k → slice_get functions k ≡ Some d → misfit_call paths functions call ≡ [] → fits call d.function ≡ true
+    unfolding misfit_call
+    fitting call k d leads at none =
+        let is : function_at paths functions (path_named call.callee) ≡ Some d = ap (option_and_then (slice_get functions)) leads ∙ at in
+        none_unless (fits call d.function) call.callee.at
+        (subst (λ o. option_map_or (λ callee. place_if (not (fits call callee.function)) call.callee.at) o [] ≡ []) is none)
+
+    module _ (scope : Names) (low : (name : List ℕ) (k : ℕ) → scope name ≡ Some k → k < f.type_params) where
+      known_call : (call : Call) → unknown_in_call paths scope w call ≡ [] → misfit_call paths functions call ≡ [] → All IsFormedType call.args → IsCallIn p f (call_of paths scope call)
+      unfolding unknown_in_call call_of function_in types_of
+      known_call call none fit formed =
+          let callee_part : List Place = place_if (is_none (paths (path_named call.callee))) call.callee.at in
+          let e = none_both (unknown_local w call.place ++ callee_part ++ unknown_in_types scope call.args ++ unknown_in_operands w call.operands) (unknown_label w call.target) none in
+          let d = none_both (unknown_local w call.place ++ callee_part ++ unknown_in_types scope call.args) (unknown_in_operands w call.operands) e.0 in
+          let c = none_both (unknown_local w call.place ++ callee_part) (unknown_in_types scope call.args) d.0 in
+          let b = none_both (unknown_local w call.place) callee_part c.0 in
+          let leads = some_of (paths (path_named call.callee)) call.callee.at b.1 in
+          let callee = led (path_named call.callee) leads.0 leads.1 in
+          let both = and_parts (nat_eq (length call.args) (length callee.0.function.type_params)) (nat_eq (length call.operands) (length callee.0.function.params)) (fitting call leads.0 callee.0 leads.1 callee.1 fit) in
+          record {
+            callee = function_of paths callee.0;
+            named = ap (λ o. slice_get p.functions (unwrap_or o 0)) leads.1 ∙ named_at leads.0 callee.0 callee.1;
+            type_args = length-map call.args (type_of scope) ∙ eqb-true (length call.args) (length callee.0.function.type_params) both.0;
+            args = length-map call.operands operand_of ∙ eqb-true (length call.operands) (length callee.0.function.params) both.1;
+            types = types_under scope f.type_params low call.args formed c.1;
+            operands = known_operands call.operands d.1;
+            place = known_local call.place b.0;
+            target = known_label call.target e.1;
+          }
+
+      known_switch : (switch : Switch) → unknown_in_switch w switch ≡ [] → IsEndIn p f (end_of paths scope (ends.Switch switch))
+      unfolding unknown_in_switch end_of
+      known_switch switch none =
+          let b = none_both (unknown_in_operand w switch.operand ++ unknown_in_arms w switch.arms) (unknown_label w switch.otherwise) none in
+          let a = none_both (unknown_in_operand w switch.operand) (unknown_in_arms w switch.arms) b.0 in
+          (known_operand switch.operand a.0, known_arms switch.arms a.1, known_label switch.otherwise b.1)
+
+      known_end : (end : End) → unknown_in_end paths scope w end ≡ [] → of_call (misfit_call paths functions) end ≡ [] → IsFormedEnd end → IsEndIn p f (end_of paths scope end)
+      unfolding unknown_in_end end_of
+      known_end ends.Return none fit formed = tt
+      known_end ends.Unreachable none fit formed = tt
+      known_end (ends.Goto label) none fit formed = known_label label none
+      known_end (ends.Switch switch) none fit formed = known_switch switch none
+      known_end (ends.Call call) none fit formed = known_call call none fit formed
+
+      known_block : (block : Block) → unknown_in_block paths scope w block ≡ [] → misfit_block paths functions block ≡ [] → IsFormedEnd block.end → IsBlockIn p f (block_of paths scope block)
+      unfolding unknown_in_block misfit_block block_of
+      known_block block none fit formed =
+          let parts = none_both (unknown_in_statements w block.statements) (unknown_in_end paths scope w block.end) none in
+          record { statements = known_statements block.statements parts.0; end = known_end block.end parts.1 fit formed }
+
+-- ---- functions
+
+locals_length : (scope : Names) (w : Function) → length (locals_of scope w) ≡ 1 + (length w.params + length w.lets)
+unfolding locals_of types_of
+locals_length scope w =
+    omega (arith, length-append (map (type_of scope) w.params) (map (type_of scope) w.lets), length-map w.params (type_of scope), length-map w.lets (type_of scope))
+
+module _ (p : Program) (functions : List Defined) (are : p.functions ≡ map (function_of (paths_to functions)) functions) where
+  abbrev leads : Names
+  leads = paths_to functions
+
+  module _ (d : Defined) (formed : IsFormedFunction d.function) (none : unknown_in_scope leads (names_in d.function) d.function ≡ []) (fit : misfits_in_function leads functions d.function ≡ []) where
+    pub known_function : IsFunctionIn p (function_of leads d)
+    unfolding unknown_in_scope unknown_in_blocks misfits_in_function function_in locals_of
+    known_function =
+        let w : Function = d.function in
+        let scope : Names = names_in w in
+        let f : made.Function = function_of leads d in
+        let low : (name : List ℕ) (k : ℕ) → scope name ≡ Some k → k < length w.type_params =
+        λ name k is. (let inside = place_low (map (λ n. n.text) w.type_params) name k is in omega (arith, inside, length-map w.type_params (λ n. n.text))) in
+        let c = none_both (unknown_in_types scope w.params ++ option_map_or (unknown_in_type scope) w.result [] ++ unknown_in_types scope w.lets) (unknown_in_blocks leads scope w w.blocks) none in
+        let b = none_both (unknown_in_types scope w.params ++ option_map_or (unknown_in_type scope) w.result []) (unknown_in_types scope w.lets) c.0 in
+        let a = none_both (unknown_in_types scope w.params) (option_map_or (unknown_in_type scope) w.result []) b.0 in
+        let each = none_each (unknown_in_block leads scope w) w.blocks c.1 in
+        let fitting = none_each (misfit_block leads functions) w.blocks fit in
+        let many : length f.locals ≡ 1 + (length w.params + length w.lets) = locals_length scope w in
+        let blocks : length f.blocks ≡ length w.blocks = length-map w.blocks (block_of leads scope) in
+        let few_locals = formed.few_locals in
+        let some_block = formed.some_block in
+        let few_blocks = formed.few_blocks in
+        record {
+          locals = omega (arith, many);
+          few_locals = omega (arith, many, few_locals);
+          types =
+              All-cons (IsTypeUnder (length w.type_params)) (result_of scope w.result) (types_of scope w.params ++ types_of scope w.lets)
+              (result_under scope (length w.type_params) low w.result formed.result a.1)
+              (All-append (IsTypeUnder (length w.type_params)) (types_of scope w.params) (types_of scope w.lets)
+              (types_under scope (length w.type_params) low w.params formed.params a.0)
+              (types_under scope (length w.type_params) low w.lets formed.lets b.1));
+          some_block = omega (arith, blocks, some_block);
+          few_blocks = omega (arith, blocks, few_blocks);
+          blocks =
+              All-map (IsBlockIn p f) (block_of leads scope) w.blocks
+              (λ k d within. known_block w f many blocks p functions are scope low (get_or w.blocks k d) (each k d within) (fitting k d within) (formed.blocks k d within));
+        }
+
+  -- ---- main
+
+  kept_some : {X : Type 0} (g : X → List Place) (o : Option X) (at : Place) → option_map_or g o (at ∷ []) ≡ [] → (x : X) × (o ≡ Some x) × (g x ≡ [])
+  kept_some g None at h = cc
+  kept_some g (Some x) at h = (x, refl, h)
+
+  looked_up : (o : Option ℕ) (d : Defined) → option_and_then (slice_get functions) o ≡ Some d → (k : ℕ) × (o ≡ Some k) × (slice_get functions k ≡ Some d)
+  looked_up None d h = cc
+  looked_up (Some k) d h = (k, refl, h)
+
+  pub known_main : (tree : Crate) → bad_main leads functions tree ≡ [] → p.main.0 ≡ place_in leads (main_path tree.name) → HasMain p
+  unfolding bad_main function_in
+  known_main tree none main =
+      let kept = kept_some (λ main. place_if (not (is_bare main.function)) main.at) (function_at leads functions (main_path tree.name)) tree.at none in
+      let d : Defined = kept.0 in
+      let at = looked_up (leads (main_path tree.name)) d kept.1 in
+      let bare = and_parts (nat_eq (length d.function.type_params) 0) (nat_eq (length d.function.params) 0) (none_unless (is_bare d.function) d.at kept.2) in
+      record {
+        main = function_of leads d;
+        named =
+            ap (slice_get p.functions) (main ∙ ap (λ o. unwrap_or o 0) at.1)
+            ∙ ap (λ fs. slice_get fs at.0) are ∙ slice_get-map (function_of leads) functions at.0 ∙ ap (option_map (function_of leads)) at.2;
+        no_type_params = eqb-true (length d.function.type_params) 0 bare.0;
+        no_params = eqb-true (length d.function.params) 0 bare.1;
+      }

@@ -1,2 +1,4 @@
 pub mod OneUnit
 pub mod References
+pub mod OneOrder
+pub mod OneEmission

@@ -152,7 +152,7 @@ module _ (p : Program) (items : List Item) (u : ObjUnit) (is : IsUnitOf p (whole
   at def = record { unit = 0; number = def.0; def = def.1 }
 
   -- each definition is of an item
-  def_from : (d : ObjDef) → Contains u.defs d → (x : Item) × Contains items x × (d ≡ def_of p External x)
+  pub def_from : (d : ObjDef) → Contains u.defs d → (x : Item) × Contains items x × (d ≡ def_of p External x)
   def_from d here =
       let there = Contains-permutation u.defs (map made (map shared items)) d (IsPermutation-sym (map made (map shared items)) u.defs is.of_items) here in
       let one = comes_from made (map shared items) d there in

@@ -1,6 +1,7 @@
 //! Laws of what is emitted. Each is proved, and its function does nothing.
 
-ghost use Rattle.std.specs.Prelude.{List, [], ◌∷◌, Contains};
+ghost use Rattle.std.specs.Prelude.{◌≡◌, List, [], ◌∷◌, Contains};
+ghost use Rattle.std.specs.List.Sorted.{IsPermutation};
 ghost use Rattle.mm_terms.specs.declared.item.Item.{Item};
 ghost use Rattle.mm_collect.specs.declared.program.Program.{Program};
 ghost use Rattle.mm_collect.specs.Roots.{item_of};
@@ -17,4 +18,12 @@ pub fn references()
     ensures main { (p : Program) (items : List Item) (objects : Objects) →
         HaveOwnSymbols p items → Contains items (item_of p.main.0) → AreObjectsOf p (whole_crate p items ∷ []) objects →
         Resolves p items objects.units 0 (item_of p.main.0) }
+{}
+
+/// Where no two of the items have one symbol, they are compiled to one list of objects, in whatever order they are handed
+/// in.
+pub fn one_emission()
+    ensures { (p : Program) (items others : List Item) (one other : Objects) →
+        HaveOwnSymbols p items → IsPermutation items others → AreObjectsOf p (whole_crate p items ∷ []) one →
+        AreObjectsOf p (whole_crate p others ∷ []) other → one ≡ other }
 {}

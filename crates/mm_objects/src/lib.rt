@@ -10,6 +10,7 @@ mod pieces;
 mod progress;
 mod reading;
 mod steps;
+mod stub;
 mod words;
 
 pub use fault::ObjFault;

@@ -1,19 +1,18 @@
 -- Which options words give, and that they mean one command.
-use Rattle.std.proofs.Common.{◌≡◌, ℕ, zero, suc, ◌^◌, ◌<◌, ◌≤◌, ◌+◌, ◌⊎◌, inl, inr, cond, eqb, nat_eq, not, false, List, [], ◌∷◌, ◌++◌, map, length, get_or, take, drop, Bor, Some, None, refl, sym, ap, ◌∙◌, subst, arith, codes}
+use Rattle.std.proofs.Common.{◌≡◌, ℕ, zero, suc, ◌^◌, ◌<◌, ◌≤◌, ◌+◌, ◌⊎◌, inl, inr, cond, eqb, List, [], ◌∷◌, ◌++◌, map, length, get_or, take, drop, Bor, Some, None, refl, sym, ap, ◌∙◌, subst, arith, codes}
 use Rattle.std.specs.declared.option.Option.{Option}
 use Rattle.std.specs.Prelude.{IsPermutation, decimal, unwrap_or}
 use Rattle.std.specs.List.{Contains, sum_by}
-use Rattle.std.specs.Cmp.Lexicographic.{pointwise, same_text}
-use Rattle.std.proofs.lemmas.Bool.{not-false}
 use Rattle.std.proofs.lemmas.Fmt.{decimal_injective}
 use Rattle.std.proofs.lemmas.List.{append-nil, append_cancel_left, map-append, take-append-drop, drop_more}
 use Rattle.std.proofs.lemmas.List.Elements.{Contains-append_left, Contains-append_right, Contains-append_cases}
 use Rattle.std.proofs.lemmas.List.Sums.{sum_by-append, sum_by-cons}
 use Rattle.std.proofs.lemmas.List.Sorted.{IsPermutation-sym, IsPermutation-trans, IsPermutation-cons, IsPermutation-to_front, IsPermutation-append_left, Contains-permutation, sum_by-IsPermutation}
+use Rattle.mm_collect.specs.declared.program.Opts.{Opts}
 use Rattle.mm_tool.specs.declared.words.Command.{Command}
-use Rattle.mm_tool.specs.declared.words.Verb.TheVariants.{List as list_verb}
-use Rattle.mm_tool.specs.declared.words.Given.{Given}
-use Rattle.mm_tool.specs.Words.{option_word, option_words, IsUpTo, AreWords}
+use Rattle.mm_tool.specs.declared.words.Command.TheVariants as command
+use Rattle.mm_tool.specs.declared.limits.Given.{Given}
+use Rattle.mm_tool.specs.Words.{option_word, option_words, IsUpTo, AreLimits, AreWords}
 use Rattle.mm_tool.specs.WordReading.{IsOption, Adds, Give}
 
 -- no word is of both options
@@ -108,14 +107,12 @@ refused_by : (given : Given) (length items : Option ℕ) (done rest : List (List
 refused_by given length items done rest word gives none all length_is items_is (inl here) = twice_length given given.length length items done rest word refl gives none all length_is (said (codes "--length=") length word here)
 refused_by given length items done rest word gives none all length_is items_is (inr here) = twice_items given given.items length items done rest word refl gives none all items_is (said (codes "--items=") items word here)
 
--- words with one that is no new option mean nothing
-pub refused : (given : Given) (done rest : List (List ℕ)) (word : List ℕ) → Give done given → NoneAdded given word → (command : Command) → AreWords (codes "list" ∷ (done ++ word ∷ rest)) command → ⊥
-refused given done rest word gives none command a =
-    let same : a.options ≡ done ++ word ∷ rest = ap (drop 1) (sym a.are) in
-    let all : IsPermutation (option_words a.length a.items) (done ++ word ∷ rest) = subst (IsPermutation (option_words a.length a.items)) same a.any_order in
+-- words with one that is no new option are no limits
+pub refused : (given : Given) (done rest : List (List ℕ)) (word : List ℕ) → Give done given → NoneAdded given word → (opts : Opts) → AreLimits (done ++ word ∷ rest) opts → ⊥
+refused given done rest word gives none opts a =
     let among : Contains (done ++ word ∷ rest) word = Contains-append_right done (word ∷ rest) word (0, omega arith, refl) in
-    let here = Contains-permutation (done ++ word ∷ rest) (option_words a.length a.items) word (IsPermutation-sym (option_words a.length a.items) (done ++ word ∷ rest) all) among in
-    refused_by given a.length a.items done rest word gives none all a.length_is a.items_is (Contains-append_cases (option_word (codes "--length=") a.length) (option_word (codes "--items=") a.items) word here)
+    let here = Contains-permutation (done ++ word ∷ rest) (option_words a.length a.items) word (IsPermutation-sym (option_words a.length a.items) (done ++ word ∷ rest) a.any_order) among in
+    refused_by given a.length a.items done rest word gives none a.any_order a.length_is a.items_is (Contains-append_cases (option_word (codes "--length=") a.length) (option_word (codes "--items=") a.items) word here)
 
 -- a number is told from its option's word
 same_number : (name : List ℕ) (most m n : ℕ) (given : Option ℕ) → most < 2 ^ 64 → m ≤ most → IsUpTo most given → given ≡ Some n → name ++ decimal m ≡ name ++ decimal n → given ≡ Some m
@@ -162,29 +159,48 @@ same_option None None to from = refl
 same_option None (Some n) to from = from n refl
 same_option (Some n) b to from = sym (to n refl)
 
-abbrev command_of : Option ℕ → Option ℕ → Command
-command_of length items = record { verb = list_verb; opts = record { length = unwrap_or length 512; items = unwrap_or items 20000 } }
+abbrev limits_of : Option ℕ → Option ℕ → Opts
+limits_of length items = record { length = unwrap_or length 512; items = unwrap_or items 20000 }
 
-pub command_one : (words : List (List ℕ)) (one other : Command) → AreWords words one → AreWords words other → one ≡ other
-command_one words one other a b =
+pub limits_one : (options : List (List ℕ)) (one other : Opts) → AreLimits options one → AreLimits options other → one ≡ other
+limits_one options one other a b =
     let xs = option_words a.length a.items in
     let ys = option_words b.length b.items in
-    let same : b.options ≡ a.options = ap (drop 1) (sym b.are ∙ a.are) in
-    let others : IsPermutation ys a.options = subst (IsPermutation ys) same b.any_order in
-    let there = IsPermutation-trans xs a.options ys a.any_order (IsPermutation-sym ys a.options others) in
+    let there = IsPermutation-trans xs options ys a.any_order (IsPermutation-sym ys options b.any_order) in
     let back = IsPermutation-sym xs ys there in
     let length : a.length ≡ b.length = same_option a.length b.length (length_kept a.length a.items b.length b.items there a.length_is b.length_is) (length_kept b.length b.items a.length a.items back b.length_is a.length_is) in
     let items : a.items ≡ b.items = same_option a.items b.items (items_kept a.length a.items b.length b.items there a.items_is b.items_is) (items_kept b.length b.items a.length a.items back b.items_is a.items_is) in
-    a.is ∙ ap (λ l. command_of l a.items) length ∙ ap (command_of b.length) items ∙ sym b.is
+    a.is ∙ ap (λ l. limits_of l a.items) length ∙ ap (limits_of b.length) items ∙ sym b.is
 
-abbrev texts : List (Bor (List ℕ)) → List (List ℕ)
+-- the options behind a command
+same_options : (name : List ℕ) (words xs ys : List (List ℕ)) → words ≡ name ∷ xs → words ≡ name ∷ ys → ys ≡ xs
+same_options name words xs ys a b = ap (drop 1) (sym b ∙ a)
+
+-- two commands with names that differ in a byte
+two_names : (k : ℕ) (name other : List ℕ) (words xs ys : List (List ℕ)) → words ≡ name ∷ xs → words ≡ other ∷ ys → get_or name k 0 ≡ get_or other k 0
+two_names k name other words xs ys a b = ap (λ ws. get_or (get_or ws 0 []) k 0) (sym a ∙ b)
+
+pub command_one : (words : List (List ℕ)) (one other : Command) → AreWords words one → AreWords words other → one ≡ other
+command_one words (command.List m) (command.List n) a b = ap command.List (limits_one a.0 m n a.2 (subst (λ os. AreLimits os n) (same_options (codes "list") words a.0 b.0 a.1 b.1) b.2))
+command_one words (command.Build m) (command.Build n) a b = ap command.Build (limits_one a.0 m n a.2 (subst (λ os. AreLimits os n) (same_options (codes "build") words a.0 b.0 a.1 b.1) b.2))
+command_one words (command.List m) (command.Build n) a b = absurd (omega (arith, two_names 0 (codes "list") (codes "build") words a.0 b.0 a.1 b.1))
+command_one words (command.Build m) (command.List n) a b = absurd (omega (arith, two_names 0 (codes "build") (codes "list") words a.0 b.0 a.1 b.1))
+
+-- options that are no limits are behind no command
+pub list_refused : (words options : List (List ℕ)) → words ≡ codes "list" ∷ options → ((opts : Opts) → AreLimits options opts → ⊥) → (command : Command) → AreWords words command → ⊥
+list_refused words options is none (command.List opts) a = none opts (subst (λ os. AreLimits os opts) (same_options (codes "list") words options a.0 is a.1) a.2)
+list_refused words options is none (command.Build opts) a = absurd (omega (arith, two_names 0 (codes "list") (codes "build") words options a.0 is a.1))
+
+pub build_refused : (words options : List (List ℕ)) → words ≡ codes "build" ∷ options → ((opts : Opts) → AreLimits options opts → ⊥) → (command : Command) → AreWords words command → ⊥
+build_refused words options is none (command.List opts) a = absurd (omega (arith, two_names 0 (codes "build") (codes "list") words options a.0 is a.1))
+build_refused words options is none (command.Build opts) a = none opts (subst (λ os. AreLimits os opts) (same_options (codes "build") words options a.0 is a.1) a.2)
+
+abbrev pub texts : List (Bor (List ℕ)) → List (List ℕ)
 texts words = map (λ w. w.now) words
 
--- the words are `list` and the options behind it
-pub verb_and_options : (words options : List (Bor (List ℕ))) (verb : Bor (List ℕ)) → words ≡ verb ∷ options → false ≡ not (pointwise nat_eq verb.now (codes "list")) → texts words ≡ codes "list" ∷ texts options
-verb_and_options words options verb is test =
-    let says : verb.now ≡ codes "list" = same_text verb.now (codes "list") (sym (not-false (pointwise nat_eq verb.now (codes "list")) (sym test))) in
-    ap texts is ∙ ap (λ w. w ∷ texts options) says
+-- the words are a command and the options behind it
+pub verb_and_options : (name : List ℕ) (words options : List (Bor (List ℕ))) (verb : Bor (List ℕ)) → words ≡ verb ∷ options → verb.now ≡ name → texts words ≡ name ∷ texts options
+verb_and_options name words options verb is says = ap texts is ∙ ap (λ w. w ∷ texts options) says
 
 -- a list around one of its places
 pub around : (words : List (Bor (List ℕ))) (i : ℕ) (d : Bor (List ℕ)) → i < length words → texts words ≡ texts (take i words) ++ (get_or words i d).now ∷ texts (drop (i + 1) words)

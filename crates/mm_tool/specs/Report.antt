@@ -9,7 +9,13 @@ use Rattle.mm_collect.specs.declared.program.Opts.{Opts}
 use Rattle.mm_collect.specs.Verdict.{IsAccepted, IsTooMany, IsTooLong}
 use Rattle.mm_parse.specs.declared.ast.Crate.{Crate}
 use Rattle.mm_lex.specs.declared.token.Token.{Token}
+use Rattle.mm_objects.specs.declared.objects.Objects.{Objects}
+use Rattle.mm_objects.specs.Emitted.{AreObjectsOf, whole_crate}
+use Rattle.mm_objects.specs.ObjectText.{objects_text}
+use Rattle.mm_tool.specs.declared.answer.Product.{Product}
+use Rattle.mm_tool.specs.declared.answer.Product.TheVariants as product
 use Rattle.mm_tool.specs.declared.words.Command.{Command}
+use Rattle.mm_tool.specs.declared.words.Command.TheVariants as command
 use Rattle.mm_lex.specs.LexText.{AreTokensOf}
 use Rattle.mm_parse.specs.Grammar as grammar
 use Rattle.mm_load.specs.Meaning.{IsProgram}
@@ -28,12 +34,23 @@ pub record Means (text : List ℕ) (program : Program) : Type 0 where
 abbrev pub line : List ℕ → List ℕ
 line text = text ++ 10 ∷ []
 
--- the program is within the limits: its items are listed
-pub record IsListed (p : Program) (opts : Opts) (status : ℕ) (output : List ℕ) : Type 0 where
+-- the output is the text of objects of the items, in one unit
+pub record IsObjectsOf (p : Program) (items : List Item) (output : List ℕ) : Type 0 where
+  pub objects : Objects
+  pub are : AreObjectsOf p (whole_crate p items ∷ []) objects
+  pub text : output ≡ objects_text objects
+
+-- what is written of the items of a program
+abbrev pub Shows : Product → Program → List Item → List ℕ → Type 0
+Shows product.Listing = IsListing
+Shows product.Objects = IsObjectsOf
+
+-- the program is within the limits: what is asked for is written of its items
+pub record IsShown (product : Product) (p : Program) (opts : Opts) (status : ℕ) (output : List ℕ) : Type 0 where
   pub status_is : status ≡ 0
   pub items : List Item
   pub accepted : IsAccepted p opts items
-  pub listed : IsListing p items output
+  pub shown : Shows product p items output
 
 -- it has more items than the limit
 pub record SaysTooMany (p : Program) (opts : Opts) (status : ℕ) (output : List ℕ) : Type 0 where
@@ -50,8 +67,8 @@ pub record SaysTooLong (p : Program) (opts : Opts) (status : ℕ) (output : List
   pub output_is : output ≡ line (codes "error: type length " ++ decimal n ++ codes " in " ++ path)
 
 -- the verdict on a program
-abbrev pub IsVerdict : Program → Opts → ℕ → List ℕ → Type 0
-IsVerdict p opts status output = IsListed p opts status output ⊎ SaysTooMany p opts status output ⊎ SaysTooLong p opts status output
+abbrev pub IsVerdict : Product → Program → Opts → ℕ → List ℕ → Type 0
+IsVerdict product p opts status output = IsShown product p opts status output ⊎ SaysTooMany p opts status output ⊎ SaysTooLong p opts status output
 
 -- the text means no program
 pub record IsBadText (text : List ℕ) (status : ℕ) (output : List ℕ) : Type 0 where
@@ -60,14 +77,14 @@ pub record IsBadText (text : List ℕ) (status : ℕ) (output : List ℕ) : Type
   pub output_is : output ≡ line (codes "error: bad text")
 
 -- the text means a program, and this is the verdict on it
-pub record IsJudged (text : List ℕ) (opts : Opts) (status : ℕ) (output : List ℕ) : Type 0 where
+pub record IsJudged (product : Product) (text : List ℕ) (opts : Opts) (status : ℕ) (output : List ℕ) : Type 0 where
   pub program : Program
   pub means : Means text program
-  pub verdict : IsVerdict program opts status output
+  pub verdict : IsVerdict product program opts status output
 
--- the answer to a text
-abbrev pub IsAnswer : List ℕ → Opts → ℕ → List ℕ → Type 0
-IsAnswer text opts status output = IsJudged text opts status output ⊎ IsBadText text status output
+-- the answer to a text of which a product is asked
+abbrev pub IsAnswer : Product → List ℕ → Opts → ℕ → List ℕ → Type 0
+IsAnswer product text opts status output = IsJudged product text opts status output ⊎ IsBadText text status output
 
 -- the words are no command line
 pub record IsBadWords (words : List (List ℕ)) (status : ℕ) (output : List ℕ) : Type 0 where
@@ -75,10 +92,15 @@ pub record IsBadWords (words : List (List ℕ)) (status : ℕ) (output : List �
   pub none : IsNoCommand words
   pub output_is : output ≡ line (codes "error: bad words")
 
+-- the answer to a command
+abbrev pub Answers : Command → List ℕ → ℕ → List ℕ → Type 0
+Answers (command.List opts) text = IsAnswer product.Listing text opts
+Answers (command.Build opts) text = IsAnswer product.Objects text opts
+
 pub record IsDone (words : List (List ℕ)) (text : List ℕ) (status : ℕ) (output : List ℕ) : Type 0 where
   pub command : Command
   pub words_are : AreWords words command
-  pub answer : IsAnswer text command.opts status output
+  pub answer : Answers command text status output
 
 -- the report of a command line and a text
 abbrev pub IsReport : List (List ℕ) → List ℕ → ℕ → List ℕ → Type 0

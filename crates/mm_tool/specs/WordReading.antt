@@ -1,6 +1,6 @@
 -- The words, as they are read one by one.
 use Rattle.std.specs.Prelude.{◌≡◌, ℕ, ◌≤◌, ◌⊎◌, List, ◌++◌, Some, None, IsPermutation, codes, decimal}
-use Rattle.mm_tool.specs.declared.words.Given.{Given}
+use Rattle.mm_tool.specs.declared.limits.Given.{Given}
 use Rattle.mm_tool.specs.Words.{option_words, IsUpTo}
 
 -- the digits write the number, which is one from 1 to the greatest

@@ -1,15 +1,26 @@
 ghost use Rattle.std.specs.Prelude.{◌≡◌, ℕ, List, ◌++◌, ◌≤◌, length, codes, decimal, IfOk};
 ghost use Rattle.mm_collect.specs.declared.program.Program.{Program};
-ghost use Rattle.mm_tool.specs.Report.{Means, IsVerdict, IsAnswer, line};
+ghost use Rattle.mm_tool.specs.Report.{Means, IsObjectsOf, Shows, IsVerdict, IsAnswer, line};
 
 use crate::listing::list_items;
 use itoa::Buffer;
 use mm_collect::{CollectFault, Opts, Program, collect};
+use mm_emit::emit_one;
 use mm_lex::{TextError, lex};
 use mm_load::load;
+use mm_objects::write_objects;
 use mm_parse::parse;
-use mm_terms::NoMemory;
+use mm_terms::{Item, NoMemory};
 use std::alloc::Global;
+
+/// What is written of the items of an accepted program.
+#[derive(Clone, Copy, Debug, PartialEq, Eq)]
+pub enum Product {
+    /// A line for each item.
+    Listing,
+    /// The text of what the items are compiled to.
+    Objects,
+}
 
 /// A status, and the bytes that are to be written.
 #[derive(Debug, Drop)]
@@ -64,14 +75,37 @@ fn too_long(alloc: Global, path: &[u8], length: u32) -> Result<Vec<u8>, NoMemory
     Ok(output)
 }
 
-/// The verdict on a program: the listing of its items, that there are too many, or that one is too long.
-fn judge(alloc: Global, p: &Program, opts: &Opts) -> Result<Answer, NoMemory>
-    ensures { IfOk result (λ answer. IsVerdict p.now opts.now answer.status answer.output.items) }
+/// The text of objects of the items.
+fn build(alloc: Global, p: &Program, items: &[Item]) -> Result<Vec<u8>, NoMemory>
+    ensures { IfOk result (λ output. IsObjectsOf p.now items.now output.items) }
+{
+    let objects = emit_one(alloc, p, items)?;
+    write_objects(alloc, &objects)
+}
+
+/// What is asked for, of the items.
+fn show(alloc: Global, product: Product, p: &Program, items: &[Item]) -> Result<Vec<u8>, NoMemory>
+    ensures { IfOk result (λ output. Shows product p.now items.now output.items) }
+{
+    match product {
+        Product::Listing => list_items(alloc, p, items),
+        Product::Objects => build(alloc, p, items),
+    }
+}
+
+/// The verdict on a program: what is asked for, of its items, or that there are too many, or that one is too long.
+fn judge(
+    alloc: Global,
+    product: Product,
+    p: &Program,
+    opts: &Opts,
+) -> Result<Answer, NoMemory>
+    ensures { IfOk result (λ answer. IsVerdict product p.now opts.now answer.status answer.output.items) }
 {
     match collect(alloc, p, opts) {
         Ok(items) => Ok(Answer {
             status: 0,
-            output: list_items(alloc, p, items.as_slice())?,
+            output: show(alloc, product, p, items.as_slice())?,
         }),
         Err(CollectFault::TooMany(items)) => Ok(Answer {
             status: 5,
@@ -86,13 +120,18 @@ fn judge(alloc: Global, p: &Program, opts: &Opts) -> Result<Answer, NoMemory>
     }
 }
 
-/// The answer to a text under these options.
-pub fn answer_to(alloc: Global, text: &[u8], opts: &Opts) -> Result<Answer, NoMemory>
+/// The answer to a text of which a product is asked, under these options.
+pub fn answer_to(
+    alloc: Global,
+    product: Product,
+    text: &[u8],
+    opts: &Opts,
+) -> Result<Answer, NoMemory>
     requires { length text.now ≤ 4194304 }
-    ensures { IfOk result (λ answer. IsAnswer text.now opts.now answer.status answer.output.items) }
+    ensures { IfOk result (λ answer. IsAnswer product text.now opts.now answer.status answer.output.items) }
 {
     match read_program(alloc, text) {
-        Ok(p) => judge(alloc, &p, opts),
+        Ok(p) => judge(alloc, product, &p, opts),
         Err(TextError::BadText) => Ok(Answer {
             status: 3,
             output: Vec::from_slice(alloc, b"error: bad text\n")?,

@@ -5,16 +5,18 @@
 #![tactic(auto)]
 
 mod answer;
+mod limits;
 mod listing;
+mod numbers;
 mod tool;
 mod type_texts;
 mod words;
 
-pub use answer::{Answer, answer_to, one_meaning, read_program};
+pub use answer::{Answer, Product, answer_to, one_meaning, read_program};
 pub use listing::{item_text, list_items};
 pub use tool::{TEXT_LIMIT, one_report, tool_one};
 pub use type_texts::type_text;
-pub use words::{Command, Verb, one_command, read_words};
+pub use words::{Command, one_command, read_words};
 
 #[cfg(test)]
 mod tests;

@@ -12,6 +12,9 @@ use std::test::Fail;
 /// 40 bytes.
 const ONE_FUNCTION: &[u8] = b"crate app; fn main() { bb0: { return } }";
 
+/// The objects of that.
+const ONE_FUNCTION_BUILT: &[u8] = b"objects 1\nmain _MFN3app4mainEIE\nunit app/app.stable\nfn _MFN3app4mainEIE External 0 1 1\nbb0\nreturn\nend\n";
+
 /// The room of a sink that takes every output of these tests.
 const ROOM: usize = 1_048_576;
 
@@ -43,14 +46,18 @@ fn one_function_passes_each_call(rt: HostRuntime) -> Result<(), Fail> {
     let listing = list_items(alloc, &program, &items)?;
     assert_eq!(rt; listing.as_slice(), b"MONO_ITEM fn app::main\n".as_slice());
 
-    let whole = answer_to(alloc, ONE_FUNCTION, &Opts::default())?;
+    let whole = answer_to(alloc, Product::Listing, ONE_FUNCTION, &Opts::default())?;
     assert_eq!(rt; whole.status, 0);
     assert_eq!(rt; whole.output, listing);
+
+    let built = answer_to(alloc, Product::Objects, ONE_FUNCTION, &Opts::default())?;
+    assert_eq!(rt; built.status, 0);
+    assert_eq!(rt; built.output.as_slice(), ONE_FUNCTION_BUILT);
     Ok(())
 }
 
 #[test]
-fn words_are_list_and_options(rt: HostRuntime) -> Result<(), Fail> {
+fn words_are_a_command_and_options(rt: HostRuntime) -> Result<(), Fail> {
     let rows: [(&[&str], u32, u32); 9] = [
         (&["list"], 512, 20_000),
         (&["list", "--items=3"], 512, 3),
@@ -63,12 +70,14 @@ fn words_are_list_and_options(rt: HostRuntime) -> Result<(), Fail> {
         (&["list", "--items=109"], 512, 109),
     ];
     for (words, length, items) in rows {
-        let command = Command {
-            verb: Verb::List,
-            opts: Opts { length, items },
-        };
+        let command = Command::List(Opts { length, items });
         assert_eq!(rt; read_words(words), Some(command), "{words:?}");
     }
+    let build = Command::Build(Opts {
+        length: 7,
+        items: 20_000,
+    });
+    assert_eq!(rt; read_words(&["build", "--length=7"]), Some(build));
     Ok(())
 }
 

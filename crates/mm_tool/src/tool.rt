@@ -1,13 +1,12 @@
-ghost use Rattle.std.specs.Prelude.{◌≡◌, ◌≢◌, ◌⊎◌, ℕ, List, map, IfSome, IfOk, IfErr, OnOk};
+ghost use Rattle.std.specs.Prelude.{◌≡◌, ◌≢◌, ◌⊎◌, ℕ, ◌≤◌, List, length, map, IfSome, IfOk, IfErr, OnOk};
 ghost use Rattle.std.specs.Io.KnownBytes.{Appends, IsAtEnd, Keeps};
 ghost use Rattle.mm_outside.specs.Causes.{Rose};
 ghost use Rattle.mm_outside.specs.Whole.{GaveMore, GaveWithin, WritesFront};
-ghost use Rattle.mm_tool.specs.Report.{IsSettled, IsStatus, IsAnswer, IsReport, Reports, ReportsFront};
+ghost use Rattle.mm_tool.specs.Report.{IsSettled, IsStatus, Answers, IsReport, Reports, ReportsFront};
 ghost use Rattle.mm_tool.specs.Words.{IsCommand, IsNoCommand};
 
-use crate::answer::{Answer, answer_to};
-use crate::words::read_words;
-use mm_collect::Opts;
+use crate::answer::{Answer, Product, answer_to};
+use crate::words::{Command, read_words};
 use mm_outside::{ReadRefusal, Sink, Source, put_all, read_all};
 use mm_terms::NoMemory;
 use std::alloc::Global;
@@ -28,9 +27,21 @@ fn put<K: Sink>(sink: &mut K, status: u8, output: &[u8]) -> u8
     }
 }
 
+/// The answer to a command and a text.
+fn answer(alloc: Global, command: Command, text: &[u8]) -> Result<Answer, NoMemory>
+    requires { length text.now ≤ 4194304 }
+    ensures answers { IfOk result (λ answer. Answers command text.now answer.status answer.output.items) }
+    ensures statuses { IfOk result (λ answer. (answer.status ≡ 0) ⊎ (answer.status ≡ 3) ⊎ (answer.status ≡ 5) ⊎ (answer.status ≡ 6)) }
+{
+    match command {
+        Command::List(opts) => answer_to(alloc, Product::Listing, text, &opts),
+        Command::Build(opts) => answer_to(alloc, Product::Objects, text, &opts),
+    }
+}
+
 /// The answer to the text that a source has left, or the status of what failed.
-fn answer_of<S: Source>(alloc: Global, source: &mut S, opts: &Opts) -> Result<Answer, u8>
-    ensures ok { IfOk result (λ answer. IfSome (S.left source.old) (λ text. IsAnswer text opts.now answer.status answer.output.items)) }
+fn answer_of<S: Source>(alloc: Global, source: &mut S, command: Command) -> Result<Answer, u8>
+    ensures ok { IfOk result (λ answer. IfSome (S.left source.old) (λ text. Answers command text answer.status answer.output.items)) }
     ensures statuses { IfOk result (λ answer. (answer.status ≡ 0) ⊎ (answer.status ≡ 3) ⊎ (answer.status ≡ 5) ⊎ (answer.status ≡ 6)) }
     ensures end { OnOk result (IsAtEnd (S.left source.new)) }
     ensures failures { IfErr result (λ status. (status ≡ 20) ⊎ (status ≡ 22) ⊎ (status ≡ 23)) }
@@ -44,7 +55,7 @@ fn answer_of<S: Source>(alloc: Global, source: &mut S, opts: &Opts) -> Result<An
         Err(ReadRefusal::TooLong) => return Err(23),
         Err(ReadRefusal::NoMemory) => return Err(22),
     };
-    match answer_to(alloc, &text, opts) {
+    match answer(alloc, command, &text) {
         Ok(answer) => Ok(answer),
         Err(NoMemory) => Err(22),
     }
@@ -54,7 +65,7 @@ fn answer_of<S: Source>(alloc: Global, source: &mut S, opts: &Opts) -> Result<An
 ///
 /// | status | written | when |
 /// |---|---|---|
-/// | 0 | the listing | the text means a program within both limits |
+/// | 0 | the listing, or the text of the objects | the text means a program within both limits |
 /// | 2 | `error: bad words` | the words are no command line; nothing is read |
 /// | 3 | `error: bad text` | the text means no program |
 /// | 5 | `error: more than <N> items in crate <name>` | the program has more items than the limit |
@@ -90,7 +101,7 @@ pub fn tool_one<S: Source, K: Sink>(
     let Some(command) = read_words(words) else {
         return put(sink, 2, b"error: bad words\n");
     };
-    match answer_of(alloc, source, &command.opts) {
+    match answer_of(alloc, source, command) {
         Ok(answer) => put(sink, answer.status, &answer.output),
         Err(status) => status,
     }

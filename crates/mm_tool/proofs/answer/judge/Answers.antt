@@ -1,7 +1,6 @@
 use Rattle.std.proofs.Common.{◌++◌, Err, refl, inl, inr, ◌∙◌, ap, subst, codes}
 use Rattle.std.specs.Prelude.{decimal}
-use Rattle.mm_tool.specs.Listing.{IsListing}
-use Rattle.mm_tool.specs.Report.{line}
+use Rattle.mm_tool.specs.Report.{line, Shows}
 use Rattle.mm_tool.proofs.answer.judge.Goals as goal
 
 pub returns-in-Ok : goal.returns-in-Ok
@@ -9,7 +8,7 @@ returns-in-Ok c = inl (record {
   status_is = refl;
   items = c.in-Ok.items;
   accepted = c.in-Ok.ensures.accepted;
-  listed = subst (λ items. IsListing c.args.p.now items c.in_ok-list_items-in-Ok.field-0.items) c.as_slice.ensures c.in_ok-list_items-in-Ok.ensures;
+  shown = subst (λ items. Shows c.args.product c.args.p.now items c.in_ok-show-in-Ok.field-0.items) c.as_slice.ensures c.in_ok-show-in-Ok.ensures;
 })
 
 pub returns-in-Err-TypeLength : goal.returns-in-Err-TypeLength

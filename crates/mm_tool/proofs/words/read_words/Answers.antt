@@ -1,40 +1,16 @@
-use Rattle.std.proofs.Common.{◌≡◌, ℕ, ◌+◌, List, [], ◌∷◌, map, take, drop, get_or, codes, Bor, refl, sym, ap, ◌∙◌, subst, arith}
-use Rattle.std.proofs.lemmas.List.{map_more, take_all}
-use Rattle.mm_tool.specs.WordReading.{Give}
-use Rattle.mm_tool.specs.Words.{AreWords}
-use Rattle.mm_tool.proofs.CommandLines.{added, refused, verb_and_options, around}
+use Rattle.std.proofs.Common.{codes}
+use Rattle.std.specs.Cmp.Lexicographic.{same_text}
+use Rattle.mm_tool.proofs.CommandLines.{texts, verb_and_options, list_refused, build_refused}
 use Rattle.mm_tool.proofs.words.read_words.Goals as goal
 
--- what stands for a word past the last
-abbrev past : Bor (List ℕ)
-past = record { ref_ptr = (0, 0); now = [] }
-
-pub returns-in_err-given-clause-none : goal.returns-in_err-given-clause-none
-returns-in_err-given-clause-none c none command a =
+pub returns-in_err-read_limits-clause-none : goal.returns-in_err-read_limits-clause-none
+returns-in_err-read_limits-clause-none c none =
     let options = c.in_ok-verb.options.now in
-    let i = c.loop-word.word-index in
-    let head = verb_and_options c.args.words.now options c.in_ok-verb.verb.now c.in_ok-verb.ensures.cases.0 c.if-ne.ensures in
-    let whole = head ∙ ap (λ rest. codes "list" ∷ rest) (around options i past (omega arith)) in
-    refused c.loop-word.given (map (λ w. w.now) (take i options)) (map (λ w. w.now) (drop (i + 1) options)) (get_or options i past).now c.loop-word.invariant (c.in_err-given.ensures.none (cc)) command (subst (λ words. AreWords words command) whole a)
+    let says = same_text c.in_ok-verb.verb.now.now (codes "list") c.if-eq.ensures in
+    list_refused (texts c.args.words.now) (texts options) (verb_and_options (codes "list") c.args.words.now options c.in_ok-verb.verb.now c.in_ok-verb.ensures.cases.0 says) (c.read_limits.ensures.none c.in_err-read_limits.was)
 
-pub loop-word-preserved : goal.loop-word-preserved
-loop-word-preserved c =
+pub returns-in_err-read_limits-2-clause-none : goal.returns-in_err-read_limits-2-clause-none
+returns-in_err-read_limits-2-clause-none c none =
     let options = c.in_ok-verb.options.now in
-    let i = c.loop-word.word-index in
-    let more = added c.loop-word.given c.in_ok-given.given (map (λ w. w.now) (take i options)) (get_or options i past).now c.loop-word.invariant c.in_ok-given.ensures.some in
-    subst (λ words. Give words c.in_ok-given.given) (sym (map_more (λ w. w.now) options i past (omega arith))) more
-
-pub returns-clause-some : goal.returns-clause-some
-returns-clause-some c =
-    let options = c.in_ok-verb.options.now in
-    let all : take c.loop-word.word-index options ≡ options = take_all c.loop-word.word-index options (omega arith) in
-    let gives : Give (map (λ w. w.now) options) c.loop-word.given = subst (λ words. Give (map (λ w. w.now) words) c.loop-word.given) all c.loop-word.invariant in record {
-      length = c.loop-word.given.length;
-      items = c.loop-word.given.items;
-      options = map (λ w. w.now) options;
-      are = verb_and_options c.args.words.now options c.in_ok-verb.verb.now c.in_ok-verb.ensures.cases.0 c.if-ne.ensures;
-      any_order = gives.0;
-      length_is = gives.1;
-      items_is = gives.2;
-      is = rw (c.unwrap_or.ensures, c.unwrap_or-2.ensures, c.default-default.ensures.0, c.default-default.ensures.1) refl;
-    }
+    let says = same_text c.in_ok-verb.verb.now.now (codes "build") c.if-eq-2.ensures in
+    build_refused (texts c.args.words.now) (texts options) (verb_and_options (codes "build") c.args.words.now options c.in_ok-verb.verb.now c.in_ok-verb.ensures.cases.0 says) (c.read_limits-then-eq-2.ensures.none c.in_err-read_limits-2.was)

@@ -1,6 +1,6 @@
 use Rattle.std.proofs.Common.{◌≡◌, Ok, arith}
 use Rattle.mm_tool.proofs.CommandNumbers.{number_begins, number_read, read_number}
-use Rattle.mm_tool.proofs.words.number.Goals as goal
+use Rattle.mm_tool.proofs.numbers.number.Goals as goal
 
 pub returns-then-not-begins_as_number-clause-none : goal.returns-then-not-begins_as_number-clause-none
 returns-then-not-begins_as_number-clause-none c none n is = c.begins_as_number.ensures.no (cc) (number_begins c.args.most n c.args.digits.now (omega arith) is)

@@ -14,3 +14,6 @@ pub use form::{Segs, SymHead, SymItem, SymMethod, SymType, SymTypes, SymbolForm}
 pub use of_items::{form_of, symbol};
 pub use reading::read_symbol;
 pub use writing::write_symbol;
+
+#[cfg(test)]
+mod tests;

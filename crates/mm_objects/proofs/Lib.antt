@@ -11,3 +11,4 @@ pub mod GoingOn
 pub mod CleanLemmas
 pub mod SplitLemmas
 pub mod TextLaws
+pub mod FaultLaws

@@ -4,4 +4,5 @@ pub mod ObjectForms
 pub mod Given
 pub mod LineReading
 pub mod TextReading
+pub mod Written
 pub mod Resolution

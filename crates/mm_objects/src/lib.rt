@@ -11,9 +11,11 @@ mod progress;
 mod reading;
 mod steps;
 mod words;
+mod writing;
 
 pub use fault::ObjFault;
 pub use objects::{
     Linkage, ObjBase, ObjBlock, ObjCallee, ObjDef, ObjEnd, ObjInstr, ObjOperand, ObjPlace,
     ObjRvalue, ObjUnit, Objects,
 };
+pub use reading::read_objects;

@@ -130,10 +130,10 @@ end-clean locals blocks ends.Unreachable is = begins (codes "unreachable") [] re
 end-clean locals blocks (ends.Goto k) is = begins (codes "goto") (decimal k ∷ []) (rw (number-clean k (omega (arith, is.1))) refl)
 end-clean locals blocks (ends.Switch a arms k) is =
     begins (codes "switch") (operand_text a ∷ (map arm_text arms ++ codes "else" ∷ decimal k ∷ []))
-        (rw (operand-clean locals a is.0, list_all-append (list_all is_graphic) (map arm_text arms) (codes "else" ∷ decimal k ∷ []), arms-clean blocks arms is.1, number-clean k (omega (arith, is.2.1))) refl)
+    (rw (operand-clean locals a is.0, list_all-append (list_all is_graphic) (map arm_text arms) (codes "else" ∷ decimal k ∷ []), arms-clean blocks arms is.1, number-clean k (omega (arith, is.2.1))) refl)
 end-clean locals blocks (ends.Call place callee args k) is =
     begins (codes "call") (place_text place ∷ callee_text callee ∷ (map operand_text args ++ codes "->" ∷ decimal k ∷ []))
-        (rw (place-clean locals place is.0, callee-clean callee is.1, list_all-append (list_all is_graphic) (map operand_text args) (codes "->" ∷ decimal k ∷ []), args-clean locals args is.2, number-clean k (omega (arith, is.3.1))) refl)
+    (rw (place-clean locals place is.0, callee-clean callee is.1, list_all-append (list_all is_graphic) (map operand_text args) (codes "->" ∷ decimal k ∷ []), args-clean locals args is.2, number-clean k (omega (arith, is.3.1))) refl)
 
 all-lines : {A : Type 0} (Is : A → Type 0) (spell : A → List Line) → ((a : A) → Is a → All IsCleanLine (spell a)) → (things : List A) → All Is things → All IsCleanLine (flat_map spell things)
 all-lines Is spell one [] all = All-nil IsCleanLine
@@ -146,20 +146,20 @@ instrs-clean locals (i ∷ others) all = All-cons IsCleanLine (instr_words i) (m
 block-clean : (locals blocks k : ℕ) (b : ObjBlock) → k < 2 ^ 64 → IsBlock locals blocks b → All IsCleanLine (block_lines (k, b))
 block-clean locals blocks k b fits is =
     All-cons IsCleanLine (label_line k) (map instr_words b.instrs ++ end_words b.end ∷ []) (begins (codes "bb" ++ decimal k) [] (let c : IsClean (codes "bb" ++ decimal k) = joined (codes "bb") (decimal k) refl (number-clean k fits) in rw c refl))
-        (All-append IsCleanLine (map instr_words b.instrs) (end_words b.end ∷ []) (instrs-clean locals b.instrs is.instrs) (All-cons IsCleanLine (end_words b.end) [] (end-clean locals blocks b.end is.end) (All-nil IsCleanLine)))
+    (All-append IsCleanLine (map instr_words b.instrs) (end_words b.end ∷ []) (instrs-clean locals b.instrs is.instrs) (All-cons IsCleanLine (end_words b.end) [] (end-clean locals blocks b.end is.end) (All-nil IsCleanLine)))
 
 blocks-clean : (locals blocks k : ℕ) (bs : List ObjBlock) → k + length bs < 2 ^ 64 → All (IsBlock locals blocks) bs → All IsCleanLine (flat_map block_lines (enumerate_from k bs))
 blocks-clean locals blocks k [] fits all = All-nil IsCleanLine
 blocks-clean locals blocks k (b ∷ bs) fits all =
     All-append IsCleanLine (block_lines (k, b)) (flat_map block_lines (enumerate_from (k + 1) bs)) (block-clean locals blocks k b (omega (arith, fits)) (All-head (IsBlock locals blocks) b bs all))
-        (blocks-clean locals blocks (k + 1) bs (omega (arith, fits)) (All-tail (IsBlock locals blocks) b bs all))
+    (blocks-clean locals blocks (k + 1) bs (omega (arith, fits)) (All-tail (IsBlock locals blocks) b bs all))
 
 def-clean : (d : ObjDef) → IsDef d → All IsCleanLine (def_lines d)
 def-clean (Code symbol link params locals blocks) is =
     All-cons IsCleanLine (fn_line symbol link params locals (length blocks)) (flat_map block_lines (enumerate_from 0 blocks))
-        (begins (codes "fn") (symbol ∷ linkage_text link ∷ decimal params ∷ decimal locals ∷ decimal (length blocks) ∷ [])
-            (rw (symbol-graphic symbol is.symbol_is, linkage-clean link, number-clean params (omega (arith, is.above_params, is.few_locals)), number-clean locals (omega (arith, is.few_locals)), number-clean (length blocks) is.few_blocks) refl))
-        (blocks-clean locals (length blocks) 0 blocks (omega (arith, is.few_blocks)) is.each)
+    (begins (codes "fn") (symbol ∷ linkage_text link ∷ decimal params ∷ decimal locals ∷ decimal (length blocks) ∷ [])
+    (rw (symbol-graphic symbol is.symbol_is, linkage-clean link, number-clean params (omega (arith, is.above_params, is.few_locals)), number-clean locals (omega (arith, is.few_locals)), number-clean (length blocks) is.few_blocks) refl))
+    (blocks-clean locals (length blocks) 0 blocks (omega (arith, is.few_blocks)) is.each)
 
 unit-clean : (u : ObjUnit) → IsUnit u → All IsCleanLine (unit_lines u)
 unit-clean u is =

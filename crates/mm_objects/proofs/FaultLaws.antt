@@ -115,7 +115,7 @@ begins-read lines unbroken begins =
     let are = begins.text.text.are in
     let h = last-of (cut_at 10 begins.behind) (cut-some 10 begins.behind) in
     let parts : (lines ++ h.front) ++ h.last ∷ [] ≡ map (join_with_byte 32) (lines_of o) ++ [] ∷ [] =
-        append_assoc lines h.front (h.last ∷ []) ∙ ap (λ l. lines ++ l) (sym h.is) ∙ sym (cut-ended lines begins.behind unbroken) ∙ ap (cut_at 10) begins.text.text.is ∙ cut-text o are in
+    append_assoc lines h.front (h.last ∷ []) ∙ ap (λ l. lines ++ l) (sym h.is) ∙ sym (cut-ended lines begins.behind unbroken) ∙ ap (cut_at 10) begins.text.text.is ∙ cut-text o are in
     let same = last-same (lines ++ h.front) (map (join_with_byte 32) (lines_of o)) h.last [] parts in
     let words : lines_of o ≡ map words_in lines ++ map words_in h.front = sym (cut-lines (lines_of o) (lines-clean o are)) ∙ ap (map words_in) (sym same.0) ∙ map-append words_in lines h.front in
     run-not_first false (map words_in lines) (map words_in h.front) o (record { are = are; one_unit = λ one. begins.text.one_unit }) words
@@ -134,14 +134,14 @@ pub record Blames (lines : List Word) (m : ℕ) : Type 0 where
 
 from-stops : (lines : List Word) (m : ℕ) → Stops false 1 at.Start lines m → Blames lines m
 from-stops lines m s = record {
-    front = s.front;
-    behind = s.line ∷ s.behind;
-    is = s.is;
-    number = omega (arith, s.number);
-    last = s.last;
-    reads = s.reads;
-    fails = λ line others same. let e : s.line ≡ line = cc in subst (λ l. next_in false s.last (words_in l) ≡ None) e s.fails;
-  }
+  front = s.front;
+  behind = s.line ∷ s.behind;
+  is = s.is;
+  number = omega (arith, s.number);
+  last = s.last;
+  reads = s.reads;
+  fails = λ line others same. let e : s.line ≡ line = cc in subst (λ l. next_in false s.last (words_in l) ≡ None) e s.fails;
+}
 
 at-end : (n m : ℕ) (o : Option Objects) → at_line n o ≡ Err m → n ≡ m
 at-end n m None h = cc
@@ -179,8 +179,8 @@ no-read : (front : List Word) (line : Word) (last p : Progress) → run_in false
 unfolding run_in
 no-read front line last p reads fails h =
     let none : run_in false at.Start (map words_in (front ++ line ∷ [])) ≡ None =
-        ap (run_in false at.Start) (map-append words_in front (line ∷ [])) ∙ run-append false at.Start (map words_in front) (words_in line ∷ [])
-        ∙ ap (λ o. o >>= λ q. run_in false q (words_in line ∷ [])) reads ∙ ap (λ o. o >>= λ q. Some q) fails in
+    ap (run_in false at.Start) (map-append words_in front (line ∷ [])) ∙ run-append false at.Start (map words_in front) (words_in line ∷ [])
+    ∙ ap (λ o. o >>= λ q. run_in false q (words_in line ∷ [])) reads ∙ ap (λ o. o >>= λ q. Some q) fails in
     cc
 
 cannot-by : (lines : List Word) (last : Word) (m : ℕ) (b : Blames lines m) (behind : List Word) → b.behind ≡ behind → (longer bytes : List ℕ) → cut_at 10 bytes ≡ lines ++ last ∷ [] → AreFirstLines m longer bytes → CanBegin longer → ⊥
@@ -191,7 +191,7 @@ cannot-by lines last m b [] none longer bytes cut first begins =
     omega (arith, ap length parts, length-append first.lines (cut_at 10 first.behind), length-append lines (last ∷ []), ap length h.is, length-append h.front (h.last ∷ []), first.count, b.number, ap length whole)
 cannot-by lines last m b (line ∷ others) some longer bytes cut first begins =
     let parts : first.lines ++ cut_at 10 first.behind ≡ (b.front ++ line ∷ []) ++ (others ++ last ∷ []) =
-        sym (first-lines m longer bytes first) ∙ cut ∙ ap (λ l. l ++ last ∷ []) (b.is ∙ ap (λ l. b.front ++ l) some) ∙ append_assoc b.front (line ∷ others) (last ∷ []) ∙ sym (append_assoc b.front (line ∷ []) (others ++ last ∷ [])) in
+    sym (first-lines m longer bytes first) ∙ cut ∙ ap (λ l. l ++ last ∷ []) (b.is ∙ ap (λ l. b.front ++ l) some) ∙ append_assoc b.front (line ∷ others) (last ∷ []) ∙ sym (append_assoc b.front (line ∷ []) (others ++ last ∷ [])) in
     let same = same-front first.lines (cut_at 10 first.behind) (b.front ++ line ∷ []) (others ++ last ∷ []) parts (first.count ∙ b.number ∙ sym (length-append b.front (line ∷ []))) in
     let read = begins-read first.lines (all-has_no first.lines first.within) (subst CanBegin first.front_is begins) in
     no-read b.front line b.last read.0 b.reads (b.fails line others some) (subst (λ l. run_in false at.Start (map words_in l) ≡ Some read.0) same read.1)

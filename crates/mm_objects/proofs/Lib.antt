@@ -12,3 +12,4 @@ pub mod CleanLemmas
 pub mod SplitLemmas
 pub mod TextLaws
 pub mod FaultLaws
+pub mod WriteLemmas

@@ -54,7 +54,7 @@ words-no_end w [] all = clean-no_end w (both (list_all is_graphic w) true all).0
 words-no_end w (v ∷ vs) all =
     let p = both (list_all is_graphic w) (list_all (list_all is_graphic) (v ∷ vs)) all in
     All-append (λ b. eqb b 10 ≡ false) w (32 ∷ join_with_byte 32 (v ∷ vs)) (clean-no_end w p.0)
-        (All-cons (λ b. eqb b 10 ≡ false) 32 (join_with_byte 32 (v ∷ vs)) refl (words-no_end v vs p.1))
+    (All-cons (λ b. eqb b 10 ≡ false) 32 (join_with_byte 32 (v ∷ vs)) refl (words-no_end v vs p.1))
 
 line-no_end : (ws : Line) → IsCleanLine ws → HasNo 10 (join_with_byte 32 ws)
 line-no_end [] is = absurd (is.some refl)

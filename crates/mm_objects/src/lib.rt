@@ -2,6 +2,7 @@
 #![tactic(auto)]
 
 mod fault;
+pub mod laws;
 mod line_error;
 mod lines;
 mod number;
@@ -19,3 +20,4 @@ pub use objects::{
     ObjRvalue, ObjUnit, Objects,
 };
 pub use reading::read_objects;
+pub use writing::write_objects;

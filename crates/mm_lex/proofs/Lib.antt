@@ -1,5 +1,6 @@
 pub mod LexFrontLaws
 pub mod LexMarkLemmas
+pub mod LexNameBytes
 pub mod LexNameLemmas
 pub mod LexNameTests
 pub mod LexNumberLemmas

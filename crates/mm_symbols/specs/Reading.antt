@@ -182,7 +182,7 @@ only_if_done a (c ∷ cs) = None
 -- all of the bytes behind the item
 unfoldable pub krate_in : List ℕ → Option (Option (List ℕ))
 krate_in [] = Some None
-krate_in (c ∷ bytes) = cond (eqb c 88) (name_in bytes >>= λ x. only_if_done (Some x.0) x.1) None
+krate_in (c ∷ bytes) = past 88 (c ∷ bytes) >>= name_in >>= λ x. only_if_done (Some x.0) x.1
 
 unfoldable pub symbol_in : ℕ → List ℕ → Option SymbolForm
 symbol_in levels bytes = do

@@ -2,7 +2,18 @@
 #![tactic(auto)]
 
 mod form;
+mod items;
+pub mod laws;
+mod of_items;
 mod pieces;
+mod reading;
+mod types;
 mod writing;
 
 pub use form::{Segs, SymHead, SymItem, SymMethod, SymType, SymTypes, SymbolForm};
+pub use of_items::{form_of, symbol};
+pub use reading::read_symbol;
+pub use writing::write_symbol;
+
+#[cfg(test)]
+mod tests;

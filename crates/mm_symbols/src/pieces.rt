@@ -92,7 +92,7 @@ pub fn segment(bytes: &[u8]) -> Result<(&[u8], &[u8]), TextError>
 }
 
 /// Whether the bytes are a name.
-fn tests_name(alloc: Global, bytes: &[u8]) -> Result<bool, NoMemory>
+pub fn tests_name(alloc: Global, bytes: &[u8]) -> Result<bool, NoMemory>
     ensures { IfOk result (λ is. is ≡ is_name bytes.now) }
 {
     mm_lex::is_name(alloc, bytes)
@@ -111,7 +111,7 @@ pub fn name(alloc: Global, bytes: &[u8]) -> Result<(Text, &[u8]), TextError>
 }
 
 /// A copy of the bytes behind their number, whatever they are.
-fn text(alloc: Global, bytes: &[u8]) -> Result<(Text, &[u8]), TextError>
+pub fn text(alloc: Global, bytes: &[u8]) -> Result<(Text, &[u8]), TextError>
     ensures { Gives (λ x. (x.0, x.1.now)) result (segment_in bytes.now) }
 {
     let (text, rest) = segment(bytes)?;
@@ -159,7 +159,7 @@ fn are_names(alloc: Global, texts: &[Text]) -> Result<bool, NoMemory>
 }
 
 /// Whether the segments are the names of a path.
-fn is_path(alloc: Global, segments: &Segs) -> Result<bool, NoMemory>
+pub fn is_path(alloc: Global, segments: &Segs) -> Result<bool, NoMemory>
     ensures { IfOk result (λ is. is ≡ is_path segments.now) }
 {
     if segments.is_empty() {

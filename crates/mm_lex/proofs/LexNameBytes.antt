@@ -1,0 +1,69 @@
+-- Which bytes a name does not have.
+use Rattle.std.proofs.Common.{◌≡◌, ℕ, ◌+◌, ◌<◌, ◌≤◌, ◌/◌, ◌%◌, Bool, true, false, cond, ◌||◌, eqb, ltb, List, [], ◌∷◌, ◌++◌, refl, sym, ◌∙◌, subst, arith, inl, inr, ◌⊎◌}
+use Rattle.std.specs.Prelude.{All}
+use Rattle.std.specs.Char.{is_ascii_alphabetic, is_ascii_alphanumeric}
+use Rattle.std.specs.Str.{chars, encode_utf8_all}
+use Rattle.std.proofs.Math.Utf8.{encode, next}
+use Rattle.std.proofs.lemmas.Bool.{cond-true, cond-false, eqb-true, ltb-false, cases_Bool, false_from_ne_true, both_ways, or_left}
+use Rattle.std.proofs.lemmas.Bool.Decides.{nat_tests}
+use Rattle.std.proofs.lemmas.List.Elements.{All-nil, All-cons, All-head, All-tail, All-append, All-same}
+use Rattle.std.proofs.lemmas.Str.{encodes-chars}
+use Rattle.unicode_ident.specs.Ident.{is_xid_continue}
+use Rattle.unicode_ident.proofs.IdentLemmas.{is_xid_continue-ascii}
+use Rattle.mm_lex.specs.LexTokens.{starts_name, IsNameLike, IsName}
+use Rattle.mm_lex.proofs.LexNameLemmas.{starts_name-ascii}
+
+module _ (d : ℕ) (small : d < 128) (plain : is_ascii_alphanumeric d || eqb d 95 ≡ false) where
+  abbrev Other : ℕ → Type 0
+  Other b = eqb b d ≡ false
+
+  large_other : (b : ℕ) → 128 ≤ b → Other b
+  large_other b large = grind (arith, nat_tests)
+
+  two : (b c : ℕ) → 128 ≤ b → 128 ≤ c → All Other (b ∷ c ∷ [])
+  two b c h g = All-cons Other b (c ∷ []) (large_other b h) (All-cons Other c [] (large_other c g) (All-nil Other))
+
+  three : (a b c : ℕ) → 128 ≤ a → 128 ≤ b → 128 ≤ c → All Other (a ∷ b ∷ c ∷ [])
+  three a b c f h g = All-cons Other a (b ∷ c ∷ []) (large_other a f) (two b c h g)
+
+  four : (z a b c : ℕ) → 128 ≤ z → 128 ≤ a → 128 ≤ b → 128 ≤ c → All Other (z ∷ a ∷ b ∷ c ∷ [])
+  four z a b c e f h g = All-cons Other z (a ∷ b ∷ c ∷ []) (large_other z e) (three a b c f h g)
+
+  long_other : (c : ℕ) (p q : Bool) → All Other (cond p ((192 + c / 64) ∷ next c ∷ []) (cond q ((224 + c / 4096) ∷ next (c / 64) ∷ next c ∷ []) ((240 + c / 262144) ∷ next (c / 4096) ∷ next (c / 64) ∷ next c ∷ [])))
+  long_other c true q = two (192 + c / 64) (next c) (omega arith) (omega arith)
+  long_other c false true = three (224 + c / 4096) (next (c / 64)) (next c) (omega arith) (omega arith) (omega arith)
+  long_other c false false = four (240 + c / 262144) (next (c / 4096)) (next (c / 64)) (next c) (omega arith) (omega arith) (omega arith) (omega arith)
+
+  -- the bytes of a character are its own number, or all past ASCII
+  encode_other : (c : ℕ) → Other c → All Other (encode c)
+  unfolding encode
+  encode_other c other = by_size (ltb c 128)
+    where
+      by_size : (p : Bool) → All Other (cond p (c ∷ []) (cond (ltb c 2048) ((192 + c / 64) ∷ next c ∷ []) (cond (ltb c 65536) ((224 + c / 4096) ∷ next (c / 64) ∷ next c ∷ []) ((240 + c / 262144) ∷ next (c / 4096) ∷ next (c / 64) ∷ next c ∷ []))))
+      by_size true = All-cons Other c [] other (All-nil Other)
+      by_size false = long_other c (ltb c 2048) (ltb c 65536)
+
+  no_start : starts_name d ≡ false
+  no_start = starts_name-ascii d small ∙ false_from_ne_true (is_ascii_alphabetic d || eqb d 95) (λ is. grind (arith, nat_tests))
+
+  continue_other : (c : ℕ) → is_xid_continue c ≡ true → Other c
+  continue_other c goes = false_from_ne_true (eqb c d) (λ is. both_ways (is_xid_continue d) (is_xid_continue-ascii d small ∙ plain) (subst (λ e. is_xid_continue e ≡ true) (eqb-true c d is) goes))
+
+  start_other : (c : ℕ) → starts_name c ≡ true → Other c
+  start_other c starts = false_from_ne_true (eqb c d) (λ is. both_ways (starts_name d) no_start (subst (λ e. starts_name e ≡ true) (eqb-true c d is) starts))
+
+  encodes_other : (cs : List ℕ) → All Other cs → All Other (encode_utf8_all cs)
+  encodes_other [] others = All-nil Other
+  encodes_other (c ∷ cs) others = All-append Other (encode c) (encode_utf8_all cs) (encode_other c (All-head Other c cs others)) (encodes_other cs (All-tail Other c cs others))
+
+  all_continue : (cs : List ℕ) → All (λ c. is_xid_continue c ≡ true) cs → All Other cs
+  all_continue [] pass = All-nil Other
+  all_continue (c ∷ cs) pass = All-cons Other c cs (continue_other c (All-head (λ e. is_xid_continue e ≡ true) c cs pass)) (all_continue cs (All-tail (λ e. is_xid_continue e ≡ true) c cs pass))
+
+  like_other : (cs : List ℕ) → IsNameLike cs → All Other cs
+  like_other [] like = absurd like
+  like_other (c ∷ cs) like = All-cons Other c cs (start_other c like.0) (all_continue cs like.1)
+
+  -- an ASCII character that is no letter, no digit and not `_` stands in no name
+  pub IsName-without : (name : List ℕ) → IsName name → All (λ b. eqb b d ≡ false) name
+  IsName-without name is = All-same Other name (encode_utf8_all (chars name)) (sym (encodes-chars name is.utf8)) (encodes_other (chars name) (like_other (chars name) is.form))

@@ -11,3 +11,5 @@ pub mod GoingOn
 pub mod CleanLemmas
 pub mod SplitLemmas
 pub mod TextLaws
+pub mod FaultLaws
+pub mod WriteLemmas

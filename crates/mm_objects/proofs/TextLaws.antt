@@ -128,7 +128,7 @@ text-sound several bytes lines last o cut h =
     let s = run-sound several at.Start (map words_in lines) (at.Done o) tt r.reads in
     (s.0, cut-is bytes lines last cut ∙ ap (λ l. ended lines ++ l) r.nothing ∙ append-nil (ended lines) ∙ sym (written-cut lines) ∙ ap written (sym s.1))
 
-last-same : {A : Type 0} (xs ys : List A) (x y : A) → xs ++ x ∷ [] ≡ ys ++ y ∷ [] → (xs ≡ ys) × (x ≡ y)
+pub last-same : {A : Type 0} (xs ys : List A) (x y : A) → xs ++ x ∷ [] ≡ ys ++ y ∷ [] → (xs ≡ ys) × (x ≡ y)
 last-same [] [] x y h = (refl, cc)
 last-same [] (z ∷ []) x y h = absurd (cc)
 last-same [] (z ∷ w ∷ ws) x y h = absurd (cc)

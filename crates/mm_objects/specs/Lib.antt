@@ -4,5 +4,6 @@ pub mod ObjectForms
 pub mod Given
 pub mod LineReading
 pub mod TextReading
+pub mod Written
 pub mod Resolution
 pub mod Emitted

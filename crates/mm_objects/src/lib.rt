@@ -2,6 +2,7 @@
 #![tactic(auto)]
 
 mod fault;
+pub mod laws;
 mod line_error;
 mod lines;
 mod number;
@@ -12,9 +13,12 @@ mod reading;
 mod steps;
 mod stub;
 mod words;
+mod writing;
 
 pub use fault::ObjFault;
 pub use objects::{
     Linkage, ObjBase, ObjBlock, ObjCallee, ObjDef, ObjEnd, ObjInstr, ObjOperand, ObjPlace,
     ObjRvalue, ObjUnit, Objects,
 };
+pub use reading::read_objects;
+pub use writing::write_objects;

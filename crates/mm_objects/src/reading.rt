@@ -1,4 +1,5 @@
-ghost use Rattle.std.specs.Prelude.{◌≡◌, ◌==◌, ◌++◌, [], ◌∷◌, ℕ, List, map, Option};
+ghost use Rattle.std.specs.Prelude.{◌≡◌, ◌==◌, ◌++◌, [], ◌∷◌, ℕ, List, map, IfOk, Option};
+ghost use Rattle.mm_objects.specs.ObjectForms.{IsUnitText, IsBadAt};
 ghost use Rattle.std.specs.List.{slice_split};
 ghost use Rattle.mm_objects.specs.Given.{Gives, GivesAt};
 ghost use Rattle.mm_objects.specs.TextReading.{next_in, words_in, at_line, done_of, if_none, text_in};
@@ -88,4 +89,14 @@ fn read(alloc: Global, several: bool, bytes: &[u8]) -> Result<Objects, ObjFault>
         Some((last, lines)) => read_lines(alloc, several, lines, last),
         None => Err(ObjFault::BadObjects(1)),
     }
+}
+
+/// The objects whose text the bytes are: object text with one unit.
+///
+/// Object text is this project's own. Its lines end with LF, words are parted by one blank, and numbers have no leading zero.
+pub fn read_objects(alloc: Global, bytes: &[u8]) -> Result<Objects, ObjFault>
+    ensures ok { IfOk result (λ objects. IsUnitText bytes.now objects) }
+    ensures bad { (line : ℕ) → result ≡ Err (ObjFault.BadObjects line) → IsBadAt line bytes.now }
+{
+    read(alloc, false, bytes)
 }

@@ -1,0 +1,7 @@
+use Rattle.std.proofs.Common.{◌≡◌, ◌++◌, map, take, flat_map}
+use Rattle.mm_objects.specs.ObjectText.{operand_text, arm_text, instr_words, def_lines, unit_lines, written}
+use Rattle.mm_objects.specs.Written.{spaced}
+use Rattle.mm_objects.proofs.writing.write_units.Given as goal
+
+abbrev pub invariant-loop-unit : goal.invariant-loop-unit
+invariant-loop-unit l = l.out.items ≡ l.fn.out.items ++ written (flat_map unit_lines (take l.unit-index l.units))

@@ -7,6 +7,10 @@ pub mod FormedLemmas
 pub mod KnownLemmas
 pub mod DefinedLemmas
 pub mod WellFormedLemmas
+pub mod ColonLemmas
+pub mod ChainLemmas
+pub mod ApartLemmas
+pub mod PathLemmas
 pub mod MemberLemmas
 pub mod Places
 pub mod WrittenLemmas

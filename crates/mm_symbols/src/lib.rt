@@ -2,6 +2,7 @@
 #![tactic(auto)]
 
 mod form;
+pub mod instances;
 mod writing;
 
 pub use form::{Segs, SymHead, SymItem, SymMethod, SymType, SymTypes, SymbolForm};

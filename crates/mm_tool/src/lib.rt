@@ -5,6 +5,7 @@
 #![tactic(auto)]
 
 mod answer;
+pub mod laws;
 mod listing;
 mod tool;
 mod type_texts;

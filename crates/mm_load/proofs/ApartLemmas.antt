@@ -6,30 +6,25 @@ use Rattle.std.specs.Str.{bytes_eq}
 use Rattle.std.proofs.lemmas.Bool.{both_ways}
 use Rattle.std.proofs.lemmas.List.{append_cancel_left}
 use Rattle.std.proofs.lemmas.List.Elements.{All-nil, All-cons, All-head, All-tail, All-append, All-weaker}
-use Rattle.std.proofs.lemmas.Option.{slice_get_within, get_or_from_slice_get}
+use Rattle.std.proofs.lemmas.Option.{slice_get_within}
 use Rattle.mm_lex.specs.declared.token.Place.{Place}
-use Rattle.mm_lex.specs.declared.token.Token.{Token}
-use Rattle.mm_lex.specs.declared.token.TokenKind.TheVariants as kinds
-use Rattle.mm_lex.specs.declared.mark.Mark.TheVariants as marks
-use Rattle.mm_lex.specs.declared.word.Word.TheVariants as words
 use Rattle.mm_lex.specs.LexTokens.{IsName}
 use Rattle.mm_parse.specs.declared.ast.Crate.{Crate}
 use Rattle.mm_parse.specs.declared.ast.Item.{Item}
-use Rattle.mm_parse.specs.declared.ast.Item.TheViews.{out-Item}
 use Rattle.mm_parse.specs.declared.ast.Name.{Name}
-use Rattle.mm_parse.specs.declared.ast.Form.{Form}
-use Rattle.mm_parse.specs.declared.ast.Form.TheVariants as forms
-use Rattle.mm_parse.specs.Language.{◌⋅◌, each}
 use Rattle.mm_parse.specs.Grammar as grammar
-use Rattle.mm_load.specs.Rules.{along, again, place_if, repeated_in, Member, member_of, double_among, double_in_items}
-use Rattle.mm_load.specs.WrittenItem.{Defined, name_of, items_in, path_in, defined_by, functions_in, functions_of}
+use Rattle.mm_load.specs.Rules.{along, again, place_if, Member, member_of, double_among, double_in_items}
+use Rattle.mm_load.specs.WrittenItem.{Defined, name_of, items_in, path_in, functions_in, functions_of}
 use Rattle.mm_load.proofs.ColonLemmas.{one_name}
+use Rattle.mm_load.proofs.FormLemmas.{path_of, defined, module_functions, function_alone, module_inside}
+use Rattle.mm_load.proofs.SpelledItems.{of_text}
+use Rattle.mm_collect.proofs.InstanceLemmas.{All-flat_map, All-at}
 use Rattle.mm_load.proofs.FormedLemmas.{named_function}
-use Rattle.mm_load.proofs.ItemLemmas.{functions_in-parts, member_of-parts, member_of-name}
-use Rattle.mm_load.proofs.KeptLemmas.{none_both, none_if, all_parts, All-flat_map}
+use Rattle.mm_load.proofs.ItemLemmas.{member_of-name}
+use Rattle.mm_load.proofs.KeptLemmas.{none_both, none_if, all_parts}
 use Rattle.mm_load.proofs.MemberLemmas.{doubled}
 use Rattle.mm_load.proofs.Places.{bytes_same}
-use Rattle.mm_load.proofs.SpelledLemmas.{Told, told_first, told_next, told_from, told_one, told_each}
+use Rattle.mm_load.proofs.SpelledLemmas.{Told}
 
 -- ---- lists of functions, each with a path of its own
 
@@ -47,19 +42,16 @@ apart_both (d ∷ ds) es apart rest across = (
   apart_both ds es apart.1 rest (All-tail (λ d. All (IsOther d) es) d ds across),
 )
 
-at_in : (P : Defined → Type 0) (ds : List Defined) (i : ℕ) (d : Defined) → All P ds → slice_get ds i ≡ Some d → P d
-at_in P ds i d all at = subst P (get_or_from_slice_get ds i d d at) (all i d (slice_get_within ds i d at))
-
 -- a path stands at one place
 pub one_place : (ds : List Defined) → AreApart ds → (i j : ℕ) (d e : Defined) → slice_get ds i ≡ Some d → slice_get ds j ≡ Some e → d.path ≡ e.path → i ≡ j
 one_place [] apart i j d e at there same = absurd (let none = slice_get_within {A = Defined} [] i d at in omega (arith, none))
 one_place (c ∷ ds) apart zero zero d e at there same = refl
 one_place (c ∷ ds) apart zero (suc j) d e at there same =
     let first : c ≡ d = cc in
-    absurd (at_in (IsOther c) ds j e apart.0 there (ap (λ f. f.path) first ∙ same))
+    absurd (All-at (IsOther c) ds j e apart.0 there (ap (λ f. f.path) first ∙ same))
 one_place (c ∷ ds) apart (suc i) zero d e at there same =
     let first : c ≡ e = cc in
-    absurd (at_in (IsOther c) ds i d apart.0 at (ap (λ f. f.path) first ∙ sym same))
+    absurd (All-at (IsOther c) ds i d apart.0 at (ap (λ f. f.path) first ∙ sym same))
 one_place (c ∷ ds) apart (suc i) (suc j) d e at there same = ap suc (one_place ds apart.1 i j d e at there same)
 
 -- ---- the names of a module
@@ -187,43 +179,23 @@ module _ (front : List ℕ) where
       (λ d below. below_below front (name_of item).text d.path below)
       (functions_in item front) (facts k one within front).1)
 
-module _ (modules : Name → List Item → List Token → Type 0) (told_module : (n : Name) (items : List Item) → Told (modules n items) → IsName n.text × All ItemFacts items) where
-  form_facts : (at : Place) (n : Name) (form : Form) (items : List Item) → Told (grammar.form modules n form items) → (front : List ℕ) → Facts front n (repeated_in form ++ double_among (map member_of items)) (defined_by (path_in front n.text) at form ++ flat_map (λ item. functions_in item (path_in front n.text)) items)
-  unfolding repeated_in
-  form_facts at n forms.Module items told front =
-      let inner = told_module n items (record { tokens = told.tokens; fine = told.fine; spelled = told.spelled }) in
-      (inner.0, module_below (path_in front n.text) items inner.1, module_apart (path_in front n.text) items inner.1)
-  form_facts at n (forms.Function f) [] told front = (
-    named_function n f (record { tokens = told.tokens; fine = told.fine; spelled = told.spelled }),
-    All-cons (λ d. IsBelow (path_in front n.text) d.path) (record { path = path_in front n.text; at = at; function = f }) [] (below_itself (path_in front n.text)) (All-nil (λ d. IsBelow (path_in front n.text) d.path)),
-    λ none. (All-nil (IsOther (record { path = path_in front n.text; at = at; function = f })), tt),
-  )
-  form_facts at n (forms.Function f) (item ∷ items) told front = absurd told.spelled
-
-  item_facts : (k : ℕ) (item : Item) → Told (grammar.item modules k item) → ItemFacts item
-  item_facts k item told front =
-      let facts = form_facts (out-Item item).at (name_of item) (out-Item item).form (items_in item)
-      (told_from (out-Item item).at (grammar.form modules (name_of item) (out-Item item).form (items_in item)) told) front in
-      subst (λ functions. Facts front (name_of item) (member_of item).inside functions) (sym (functions_in-parts item front))
-      (subst (λ (m : Member). Facts front (name_of item) m.inside (defined_by (path_in front (name_of item).text) (out-Item item).at (out-Item item).form ++ flat_map (λ inner. functions_in inner (path_in front (name_of item).text)) (items_in item)))
-      (sym (member_of-parts item)) facts)
-
-  items_facts : (items : List Item) → Told (each (grammar.item modules) 0 items) → All ItemFacts items
-  items_facts items told = told_each (grammar.item modules) ItemFacts item_facts 0 items told
-
-module_facts : (levels : ℕ) (n : Name) (items : List Item) → Told (grammar.module_within levels n items) → IsName n.text × All ItemFacts items
-unfolding grammar.module_within
-module_facts zero n items told = absurd told.spelled
-module_facts (suc levels) n items told =
-    let inner : Told (grammar.name n ⋅ grammar.mark marks.OpenBrace ⋅ each (grammar.item (grammar.module_within levels)) 0 items ⋅ grammar.mark marks.CloseBrace) = told_next (record { tokens = told.tokens; fine = told.fine; spelled = told.spelled }) in (
-      told_one (kinds.Name n.text) (told_from n.at (grammar.named n.text) (told_first inner)),
-      items_facts (grammar.module_within levels) (module_facts levels) items (told_first (told_next (told_next inner))),
-    )
-
 -- in a tree that a text spells, and that has no name twice in a module
 pub apart : (tree : Crate) → Told (grammar.text tree) → double_in_items tree.items ≡ [] → AreApart (functions_of tree)
 unfolding functions_of
 apart tree told none =
-    module_apart tree.name tree.items
-    (items_facts (grammar.module_within 64) (module_facts 64) tree.items (told_next (told_next (told_next (told_from tree.at (grammar.word words.Crate ⋅ grammar.named tree.name ⋅ grammar.mark marks.Semicolon ⋅ each (grammar.item (grammar.module_within 64)) 0 tree.items) told)))))
-    none
+    let facts = of_text ItemFacts
+    (λ item is named each front.
+    let functions = module_functions item front is in (
+      named,
+      subst (AreBelow (path_of item front)) (sym functions) (module_below (path_of item front) (items_in item) each),
+      λ none. subst AreApart (sym functions) (module_apart (path_of item front) (items_in item) each (sym (module_inside item is) ∙ none)),
+    ))
+    (λ item f is no_items function front.
+    let alone = function_alone item front f is no_items in (
+      named_function (name_of item) f function,
+      subst (AreBelow (path_of item front)) (sym alone)
+          (All-cons (λ d. IsBelow (path_of item front) d.path) (defined item front f) [] (below_itself (path_of item front)) (All-nil (λ d. IsBelow (path_of item front) d.path))),
+      λ none. subst AreApart (sym alone) (All-nil (IsOther (defined item front f)), tt),
+    ))
+    tree told in
+    module_apart tree.name tree.items facts none

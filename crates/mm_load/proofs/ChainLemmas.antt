@@ -4,16 +4,13 @@ use Rattle.std.specs.Prelude.{All}
 use Rattle.std.specs.List.{flat_map, join_by}
 use Rattle.std.proofs.lemmas.List.Elements.{All-nil, All-cons, All-append}
 use Rattle.std.proofs.lemmas.List.Concat.{flat_map-append}
-use Rattle.mm_lex.specs.declared.token.TokenKind.TheVariants as kinds
-use Rattle.mm_lex.specs.declared.mark.Mark.TheVariants as marks
-use Rattle.mm_lex.specs.declared.word.Word.TheVariants as words
 use Rattle.mm_lex.specs.LexTokens.{IsName}
 use Rattle.mm_parse.specs.declared.ast.Crate.{Crate}
-use Rattle.mm_parse.specs.Language.{◌⋅◌, each}
 use Rattle.mm_parse.specs.Grammar as grammar
 use Rattle.mm_load.specs.WrittenItem.{path_in, functions_of}
 use Rattle.mm_load.proofs.DefinedLemmas.{defined_text}
-use Rattle.mm_load.proofs.SpelledLemmas.{Told, told_first, told_next, told_from, told_one}
+use Rattle.mm_load.proofs.SpelledItems.{crate_named}
+use Rattle.mm_load.proofs.SpelledLemmas.{Told}
 
 -- one name or more, joined by ::
 pub record IsChain (path : List ℕ) : Type 0 where
@@ -54,5 +51,4 @@ chain_more front name chain named = record {
 -- in a tree that a text spells
 pub chains : (tree : Crate) → Told (grammar.text tree) → All (λ d. IsChain d.path) (functions_of tree)
 chains tree told =
-    let named = told_one (kinds.Name tree.name) (told_first (told_next (told_from tree.at (grammar.word words.Crate ⋅ grammar.named tree.name ⋅ grammar.mark marks.Semicolon ⋅ each (grammar.item (grammar.module_within 64)) 0 tree.items) told))) in
-    λ k d within. (defined_text IsChain chain_more tree told (chain_one tree.name named) k d within).0
+    λ k d within. (defined_text IsChain chain_more tree told (chain_one tree.name (crate_named tree told)) k d within).0

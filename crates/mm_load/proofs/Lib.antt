@@ -5,6 +5,8 @@ pub mod KeptLemmas
 pub mod SpelledLemmas
 pub mod FormedLemmas
 pub mod KnownLemmas
+pub mod FormLemmas
+pub mod SpelledItems
 pub mod DefinedLemmas
 pub mod WellFormedLemmas
 pub mod ColonLemmas

@@ -8,6 +8,7 @@ use Rattle.std.proofs.lemmas.Option.{slice_get-map}
 use Rattle.mm_collect.specs.Uses.{function_path}
 use Rattle.mm_collect.specs.declared.program.Program.{Program}
 use Rattle.mm_lex.specs.declared.token.Token.{Token}
+use Rattle.mm_lex.specs.LexTokens.{IsName}
 use Rattle.mm_lex.specs.LexText.{AreTokensOf}
 use Rattle.mm_parse.specs.declared.ast.Crate.{Crate}
 use Rattle.mm_parse.specs.Grammar as grammar
@@ -18,15 +19,21 @@ use Rattle.mm_load.specs.WrittenItem.{Defined, functions_of, paths_in}
 use Rattle.mm_load.proofs.ApartLemmas.{one_place, apart}
 use Rattle.mm_load.proofs.ChainLemmas.{IsChain, chains}
 use Rattle.mm_load.proofs.KnownLemmas.{found}
+use Rattle.mm_load.proofs.SpelledItems.{crate_named}
 use Rattle.mm_load.proofs.SpelledLemmas.{Told}
 use Rattle.mm_load.proofs.WellFormedLemmas.{told_text}
 
--- each path is a chain of names, and no two functions have one path
+-- the crate has a name, each path is a chain of names, and no two functions have one path
 pub record HavePaths (p : Program) : Type 0 where
+  pub krate : IsName p.krate
   pub each : All (λ f. IsChain f.path) p.functions
   pub one : (c d : ℕ) → c < length p.functions → d < length p.functions → function_path (slice_get p.functions c) ≡ function_path (slice_get p.functions d) → c ≡ d
 
 module _ (tree : Crate) (kept : KeepsRules tree) (told : Told (grammar.text tree)) where
+  krate_named : IsName (program_of tree).krate
+  unfolding program_in
+  krate_named = crate_named tree told
+
   each_chain : All (λ f. IsChain f.path) (program_of tree).functions
   unfolding program_in function_in
   each_chain = All-map (λ f. IsChain f.path) (function_of (paths_in tree)) (functions_of tree) (λ k d within. chains tree told k d within)
@@ -50,4 +57,4 @@ module _ (tree : Crate) (kept : KeepsRules tree) (told : Told (grammar.text tree
 pub means_paths : (text : List ℕ) (tokens : List Token) (tree : Crate) (p : Program) → AreTokensOf text tokens → grammar.text tree tokens → IsProgram tree p → HavePaths p
 means_paths text tokens tree p lexed spelled is =
     let told = told_text text tokens tree lexed spelled in
-    subst HavePaths (sym is.means) (record { each = each_chain tree is.kept told; one = one_each tree is.kept told })
+    subst HavePaths (sym is.means) (record { krate = krate_named tree is.kept told; each = each_chain tree is.kept told; one = one_each tree is.kept told })

@@ -10,6 +10,7 @@ use Rattle.mm_collect.specs.Uses.{uses_of}
 use Rattle.mm_collect.specs.WellFormed.{IsWellFormed}
 use Rattle.mm_collect.specs.declared.program.Program.{Program}
 use Rattle.mm_collect.proofs.InstanceLemmas.{members_are}
+use Rattle.mm_lex.specs.LexTokens.{IsName}
 use Rattle.mm_load.proofs.ChainLemmas.{IsChain}
 use Rattle.mm_load.proofs.PathLemmas.{HavePaths, means_paths}
 use Rattle.mm_load.proofs.WellFormedLemmas.{means_well}
@@ -32,8 +33,14 @@ named p paths = record {
 pub means_well_formed : (text : List ℕ) (p : Program) → Means text p → IsWellFormed p
 means_well_formed text p m = means_well text m.tokens m.tree p m.lexed m.spelled m.loaded
 
+paths_of : (text : List ℕ) (p : Program) → Means text p → HavePaths p
+paths_of text p m = means_paths text m.tokens m.tree p m.lexed m.spelled m.loaded
+
+pub means_krate : (text : List ℕ) (p : Program) → Means text p → IsName p.krate
+means_krate text p m = (paths_of text p m).krate
+
 pub means_names : (text : List ℕ) (p : Program) → Means text p → HasNames p
-means_names text p m = named p (means_paths text m.tokens m.tree p m.lexed m.spelled m.loaded)
+means_names text p m = named p (paths_of text p m)
 
 pub members_in : (text : List ℕ) (p : Program) (limit : ℕ) (x : Item) → Means text p → IsMember (roots_of p) (uses_of p limit) x → IsItemIn p x
 members_in text p limit x m member = instance_is_item p x (members_are p limit x (means_well_formed text p m) member)

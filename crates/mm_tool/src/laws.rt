@@ -7,6 +7,7 @@ ghost use Rattle.mm_collect.specs.Roots.{roots_of};
 ghost use Rattle.mm_collect.specs.Uses.{uses_of};
 ghost use Rattle.mm_collect.specs.WellFormed.{IsWellFormed};
 ghost use Rattle.mm_collect.specs.declared.program.Program.{Program};
+ghost use Rattle.mm_lex.specs.LexTokens.{IsName};
 ghost use Rattle.mm_symbols.specs.ItemForms.{HasNames, IsItemIn};
 ghost use Rattle.mm_tool.specs.Report.{Means};
 
@@ -14,6 +15,7 @@ ghost use Rattle.mm_tool.specs.Report.{Means};
 /// items that symbols tell apart.
 pub fn means_names()
     ensures well_formed { (text : List ℕ) (p : Program) → Means text p → IsWellFormed p }
+    ensures krate { (text : List ℕ) (p : Program) → Means text p → IsName p.krate }
     ensures names { (text : List ℕ) (p : Program) → Means text p → HasNames p }
     ensures members { (text : List ℕ) (p : Program) (limit : ℕ) (x : Item) → Means text p →
         IsMember (roots_of p) (uses_of p limit) x → IsItemIn p x }

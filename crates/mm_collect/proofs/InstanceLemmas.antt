@@ -29,7 +29,8 @@ use Rattle.mm_collect.proofs.PlainLemmas.{plain-subst}
 All-kept : {X : Type 0} (test : X → Bool) (P : X → Type 0) (xs : List X) → All (λ x. test x ≡ true → P x) xs → All P (filter test xs)
 All-kept test P xs all = λ k d within. All-filter test (λ x. test x ≡ true → P x) xs all k d within (filter_passes test xs k d within)
 
-All-flat_map : {X Y : Type 0} (P : Y → Type 0) (f : X → List Y) (xs : List X) → All (λ x. All P (f x)) xs → All P (flat_map f xs)
+-- what holds of each part holds of all that is put together
+pub All-flat_map : {X Y : Type 0} (P : Y → Type 0) (f : X → List Y) (xs : List X) → All (λ x. All P (f x)) xs → All P (flat_map f xs)
 All-flat_map P f [] all = All-nil P
 All-flat_map {X} P f (x ∷ xs) all =
     All-append P (f x) (flat_map f xs) (All-head (λ x. All P (f x)) x xs all) (All-flat_map P f xs (All-tail (λ x. All P (f x)) x xs all))

@@ -106,7 +106,8 @@ pub record IsBlockIn (p : Program) (f : Function) (block : Block) : Type 0 where
 
 -- ---- programs
 
--- The locals are the result, the parameters and the others, at most 65,536. There are 1 to 65,536 blocks
+-- The locals are the result, the parameters and the others. There is at least one block. Locals and blocks are numbered
+-- from 0 to at most 65,535
 pub record IsFunctionIn (p : Program) (f : Function) : Type 0 where
   pub locals : f.params + 1 ≤ length f.locals
   pub few_locals : length f.locals ≤ 65536
@@ -122,7 +123,7 @@ pub record HasMain (p : Program) : Type 0 where
   pub no_type_params : main.type_params ≡ 0
   pub no_params : main.params ≡ 0
 
--- a run has where to begin, and each function is well-formed
+-- a run has where to begin, and each function is well-formed. This is what a program has that was loaded from a text
 pub record IsWellFormed (p : Program) : Type 0 where
   pub main : HasMain p
   pub functions : All (IsFunctionIn p) p.functions

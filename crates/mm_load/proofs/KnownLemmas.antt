@@ -62,7 +62,7 @@ place_low (n ∷ ns) name k h =
     let low = first_low (bytes_eq name n) (place_of ns name) (length ns) k (place_low ns name) h in
     omega (arith, low)
 
-found : {X : Type 0} (xs : List X) (i : ℕ) → i < length xs → (x : X) × (slice_get xs i ≡ Some x)
+pub found : {X : Type 0} (xs : List X) (i : ℕ) → i < length xs → (x : X) × (slice_get xs i ≡ Some x)
 found xs i within = ⊎_elim (λ here. (here.0, here.2)) (λ past. absurd (omega (arith, within, past.0))) (slice_get_cases xs i).1
 
 -- ---- types

@@ -5,8 +5,14 @@ pub mod KeptLemmas
 pub mod SpelledLemmas
 pub mod FormedLemmas
 pub mod KnownLemmas
+pub mod FormLemmas
+pub mod SpelledItems
 pub mod DefinedLemmas
 pub mod WellFormedLemmas
+pub mod ColonLemmas
+pub mod ChainLemmas
+pub mod ApartLemmas
+pub mod PathLemmas
 pub mod MemberLemmas
 pub mod Places
 pub mod WrittenLemmas

@@ -9,3 +9,4 @@ pub mod SymbolReads
 pub mod ItemLaws
 pub mod PathLemmas
 pub mod ItemLemmas
+pub mod InstanceItems

@@ -2,6 +2,7 @@
 #![tactic(auto)]
 
 mod form;
+pub mod instances;
 mod items;
 pub mod laws;
 mod of_items;

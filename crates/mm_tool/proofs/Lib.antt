@@ -5,3 +5,4 @@ pub mod OneReport
 pub mod Reports
 pub mod SortedLines
 pub mod TypeTextLemmas
+pub mod NamedPrograms

@@ -5,6 +5,7 @@
 #![tactic(auto)]
 
 mod answer;
+pub mod laws;
 mod limits;
 mod listing;
 mod numbers;

@@ -1,0 +1,54 @@
+-- The path of each function is a chain of names.
+use Rattle.std.proofs.Common.{◌≡◌, ◌≢◌, ℕ, List, [], ◌∷◌, ◌++◌, refl, sym, ◌∙◌, ap, append_assoc, append-nil, codes}
+use Rattle.std.specs.Prelude.{All}
+use Rattle.std.specs.List.{flat_map, join_by}
+use Rattle.std.proofs.lemmas.List.Elements.{All-nil, All-cons, All-append}
+use Rattle.std.proofs.lemmas.List.Concat.{flat_map-append}
+use Rattle.mm_lex.specs.LexTokens.{IsName}
+use Rattle.mm_parse.specs.declared.ast.Crate.{Crate}
+use Rattle.mm_parse.specs.Grammar as grammar
+use Rattle.mm_load.specs.WrittenItem.{path_in, functions_of}
+use Rattle.mm_load.proofs.DefinedLemmas.{defined_text}
+use Rattle.mm_load.proofs.SpelledItems.{crate_named}
+use Rattle.mm_load.proofs.SpelledLemmas.{Told}
+
+-- one name or more, joined by ::
+pub record IsChain (path : List ℕ) : Type 0 where
+  pub names : List (List ℕ)
+  pub some : names ≢ []
+  pub each : All IsName names
+  pub is : path ≡ join_by (λ name. name) (codes "::") names
+
+chain_one : (name : List ℕ) → IsName name → IsChain name
+chain_one name named = record {
+  names = name ∷ [];
+  some = λ none. cc;
+  each = All-cons IsName name [] named (All-nil IsName);
+  is = sym (append-nil name);
+}
+
+-- a name behind others is joined to them
+behind : (front : List (List ℕ)) (name : List ℕ) → front ≢ [] → join_by (λ name. name) (codes "::") (front ++ name ∷ []) ≡ path_in (join_by (λ name. name) (codes "::") front) name
+behind [] name some = absurd (some refl)
+behind (first ∷ front) name some =
+    let rest : List ℕ = flat_map (λ name. codes "::" ++ name) front in
+    ap (λ more. first ++ more) (flat_map-append (λ name. codes "::" ++ name) front (name ∷ []) ∙ ap (λ last. rest ++ last) (append-nil (codes "::" ++ name)))
+    ∙ sym (append_assoc first rest (codes "::" ++ name))
+    ∙ sym (append_assoc (first ++ rest) (codes "::") name)
+
+no_end : (front : List (List ℕ)) (name : List ℕ) → front ++ name ∷ [] ≢ []
+no_end [] name none = cc
+no_end (first ∷ front) name none = cc
+
+chain_more : (front name : List ℕ) → IsChain front → IsName name → IsChain (path_in front name)
+chain_more front name chain named = record {
+  names = chain.names ++ name ∷ [];
+  some = no_end chain.names name;
+  each = All-append IsName chain.names (name ∷ []) chain.each (All-cons IsName name [] named (All-nil IsName));
+  is = ap (λ path. path_in path name) chain.is ∙ sym (behind chain.names name chain.some);
+}
+
+-- in a tree that a text spells
+pub chains : (tree : Crate) → Told (grammar.text tree) → All (λ d. IsChain d.path) (functions_of tree)
+chains tree told =
+    λ k d within. (defined_text IsChain chain_more tree told (chain_one tree.name (crate_named tree told)) k d within).0

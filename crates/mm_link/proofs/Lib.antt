@@ -2,3 +2,5 @@ pub mod Keys
 pub mod Names
 pub mod Finding
 pub mod Least
+pub mod Firsts
+pub mod Clashing

@@ -70,7 +70,7 @@ module _ {S : Type 0} where
   given_if None s = refl
   given_if (Some m) s = refl
 
-  own_found : (own : List (HashMap (Vec ℕ) Target S)) (us : List ObjUnit) → map leads own ≡ own_names 0 us → (unit : ℕ) (s : List ℕ) → leads_if (slice_get own unit) s ≡ own_in us unit s
+  pub own_found : (own : List (HashMap (Vec ℕ) Target S)) (us : List ObjUnit) → map leads own ≡ own_names 0 us → (unit : ℕ) (s : List ℕ) → leads_if (slice_get own unit) s ≡ own_in us unit s
   own_found own us is unit s =
       let e : 0 + unit ≡ unit = omega arith in
       given_if (slice_get own unit) s

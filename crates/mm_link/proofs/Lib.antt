@@ -1,3 +1,6 @@
 pub mod Keys
 pub mod Names
 pub mod Finding
+pub mod Least
+pub mod Firsts
+pub mod Clashing

@@ -1,5 +1,5 @@
 -- Where symbols lead by an index.
-use Rattle.std.specs.Prelude.{◌≡◌, ℕ, ◌+◌, Bool, true, false, List, [], ◌∷◌, map, flat_map, Option, None, Some, slice_get}
+use Rattle.std.specs.Prelude.{◌≡◌, ℕ, ◌+◌, Bool, true, false, List, [], ◌∷◌, map, flat_map, Option, None, Some, slice_get, if◌then◌else◌}
 use Rattle.std.specs.Global.{Vec}
 use Rattle.std.specs.HashMap.{HashMap, get_by}
 use Rattle.std.specs.List.{enumerate_from, find}
@@ -7,7 +7,7 @@ use Rattle.std.specs.Option.{option_map}
 use Rattle.std.specs.Str.{bytes_eq}
 use Rattle.mm_objects.specs.declared.objects.ObjDef.{ObjDef}
 use Rattle.mm_objects.specs.declared.objects.ObjUnit.{ObjUnit}
-use Rattle.mm_objects.specs.Resolution.{Placed, defines, is_own, is_shared, placed, placed_in}
+use Rattle.mm_objects.specs.Resolution.{Placed, is_external, link_of, symbol_of, defines, is_own, is_shared, placed, placed_in}
 use Rattle.mm_machines.specs.Image.{target_of}
 use Rattle.mm_machines.specs.declared.target.Target.{Target}
 
@@ -40,6 +40,10 @@ shared_from n us s = option_map target_of (find (is_shared s) (flat_map placed_i
 -- the first definition of the symbol to which every unit may refer
 abbrev pub shared_in : List ObjUnit → List ℕ → Option Target
 shared_in us s = option_map target_of (find (is_shared s) (placed us))
+
+-- the first definition of the symbol of one to which every unit may refer, where that is so of this one
+abbrev pub open_in : List ObjUnit → ObjDef → Option Target
+open_in us d = if is_external (link_of d) then shared_in us (symbol_of d) else None
 
 -- the unit's own first definition of the symbol
 abbrev pub own_in : List ObjUnit → ℕ → List ℕ → Option Target

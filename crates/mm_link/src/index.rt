@@ -142,15 +142,25 @@ pub fn index_units(alloc: Global, units: &[ObjUnit]) -> Result<Index, NoMemory>
 }
 
 impl Index {
+    /// The unit's own first definition of a symbol.
+    pub fn own_def(&self, unit: u32, symbol: &[u8]) -> Option<Target>
+        ensures { result ≡ leads_if (slice_get self.now.own.items unit) symbol.now }
+    {
+        let names = self.own.get(unit as usize)?;
+        names.get(symbol).copied()
+    }
+
+    /// The first definition of a symbol to which every unit may refer.
+    pub fn shared_def(&self, symbol: &[u8]) -> Option<Target>
+        ensures { result ≡ leads self.now.shared symbol.now }
+    {
+        self.shared.get(symbol).copied()
+    }
+
     /// The definition to which a symbol leads in a unit.
     pub fn find(&self, unit: u32, symbol: &[u8]) -> Option<Target>
         ensures { result ≡ option_or (leads_if (slice_get self.now.own.items unit) symbol.now) (leads self.now.shared symbol.now) }
     {
-        if let Some(names) = self.own.get(unit as usize) {
-            if let Some(target) = names.get(symbol) {
-                return Some(*target);
-            }
-        }
-        self.shared.get(symbol).copied()
+        self.own_def(unit, symbol).or(self.shared_def(symbol))
     }
 }

@@ -1,10 +1,10 @@
 -- The symbols of a program's items tell the items apart, and are symbols.
-use Rattle.std.proofs.Common.{◌≡◌, ◌≢◌, ℕ, zero, suc, ◌+◌, ◌<◌, ◌≤◌, max, inl, inr, List, [], ◌∷◌, ◌++◌, length, map, get_or, Option, Some, None, refl, sym, ◌∙◌, ap, subst, arith}
-use Rattle.std.specs.Prelude.{⊤, All, flat_map, slice_get}
+use Rattle.std.proofs.Common.{◌≡◌, ◌≢◌, ℕ, zero, suc, ◌+◌, ◌<◌, ◌≤◌, inl, inr, List, [], ◌∷◌, ◌++◌, length, map, refl, sym, ◌∙◌, ap, subst, arith}
+use Rattle.std.specs.Prelude.{⊤, All, flat_map}
 use Rattle.std.proofs.lemmas.List.{length-map}
-use Rattle.std.proofs.lemmas.Option.{slice_get-get_or, slice_get_cases}
+use Rattle.std.proofs.lemmas.Option.{slice_get_cases}
 use Rattle.std.proofs.lemmas.List.Folds.{flat_map-map}
-use Rattle.std.proofs.lemmas.List.Elements.{All-nil, All-cons, All-head, All-tail, All-same, All-map, All-weaker, All-get_or}
+use Rattle.std.proofs.lemmas.List.Elements.{All-nil, All-cons, All-head, All-tail, All-same, All-get_or}
 use Rattle.mm_terms.specs.declared.ids.DefId.{DefId}
 use Rattle.mm_terms.specs.declared.ty_head.TyHead.{TyHead}
 use Rattle.mm_terms.specs.declared.ty_head.TyHead.TheVariants as heads
@@ -13,27 +13,22 @@ use Rattle.mm_terms.specs.declared.item.Item.{Item}
 use Rattle.mm_terms.specs.declared.item.Item.TheVariants.{Fn, Glue, Shim, Static}
 use Rattle.mm_terms.specs.Formed.{FitsHead, IsFormed, IsFormed-head, IsFormed-children}
 use Rattle.mm_terms.specs.Order.{types_of}
-use Rattle.mm_terms.specs.Substitution.{HasNoParam, ParamsBelow, ParamsBelow-none, ParamsBelow-param, ParamsBelow-children, HasNoParam-below}
-use Rattle.mm_terms.specs.Tree.{node, head_of, children_of, tree_fold-parts, tree_ind, node-parts, head_of-node, children_of-node}
+use Rattle.mm_terms.specs.Substitution.{ParamsBelow, ParamsBelow-none, ParamsBelow-param, ParamsBelow-children, HasNoParam-below}
+use Rattle.mm_terms.specs.Tree.{node, head_of, children_of, tree_fold-parts, tree_ind, node-parts, children_of-node}
 use Rattle.mm_collect.specs.declared.program.Program.{Program}
 use Rattle.mm_collect.specs.declared.program.Function.{Function}
 use Rattle.mm_collect.specs.Uses.{function_path}
-use Rattle.mm_symbols.specs.declared.form.SymHead.{SymHead}
-use Rattle.mm_symbols.specs.declared.form.SymHead.TheVariants as sym_heads
-use Rattle.mm_symbols.specs.declared.form.SymType.{SymType}
-use Rattle.mm_symbols.specs.declared.form.SymItem.{SymItem}
-use Rattle.mm_symbols.specs.declared.form.SymItem.TheVariants as items
 use Rattle.mm_symbols.specs.declared.form.SymbolForm.{SymbolForm}
 use Rattle.mm_symbols.specs.SymTree.{sym_node, sym_head, sym_children, sym_head-node, sym_children-node}
 use Rattle.mm_symbols.specs.SymbolText.{symbol_text}
-use Rattle.mm_symbols.specs.SymbolForms.{IsPath, IsHead, IsWithin, IsItem, IsFormWithin, IsSymbolOf}
+use Rattle.mm_symbols.specs.SymbolForms.{IsPath, IsHead, IsWithin, IsFormWithin, IsSymbolOf}
 use Rattle.mm_symbols.specs.Reading.{symbol_in}
-use Rattle.mm_symbols.specs.ItemForms.{path_of, names_in, names_of, head_form, type_form, item_form, form_of, IsPathText, HasNames, def_of, defs_of, greatest, depth_of, IsTypeIn, def_of_item, IsItemIn}
+use Rattle.mm_symbols.specs.ItemForms.{path_of, names_of, head_form, type_form, item_form, form_of, IsPathText, HasNames, def_of, defs_of, greatest, depth_of, IsTypeIn, IsItemIn}
 use Rattle.mm_symbols.proofs.Readers.{some_same}
 use Rattle.mm_symbols.proofs.TypeReads.{within_node}
 use Rattle.mm_symbols.proofs.SymbolReads.{symbol_in-complete}
 use Rattle.mm_symbols.proofs.PathLemmas.{IsPath-names_in, one_path}
-use Rattle.mm_symbols.proofs.ItemLemmas.{type_form-parts, node_same}
+use Rattle.mm_symbols.proofs.ItemLemmas.{type_form-parts}
 
 -- ---- a symbol has one form
 

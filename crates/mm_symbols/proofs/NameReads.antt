@@ -1,15 +1,14 @@
 -- Names and paths are read.
-use Rattle.std.proofs.Common.{◌≡◌, ℕ, ◌^◌, ◌<◌, ◌≤◌, List, [], ◌∷◌, ◌++◌, length, take, drop, Bool, true, false, cond, ◌||◌, eqb, leb, Option, Some, None, refl, sym, ◌∙◌, ap, subst, append_assoc, length-append, arith}
-use Rattle.std.specs.Prelude.{All, flat_map, decimal}
+use Rattle.std.proofs.Common.{◌≡◌, ℕ, ◌^◌, ◌<◌, ◌≤◌, List, [], ◌∷◌, ◌++◌, length, take, drop, true, false, eqb, leb, Some, None, refl, sym, ◌∙◌, ap, subst, append_assoc, length-append, arith}
+use Rattle.std.specs.Prelude.{All, decimal}
 use Rattle.std.specs.List.{prefix_len, list_all}
 use Rattle.std.specs.Char.{is_ascii_digit}
 use Rattle.std.specs.Str.{chars}
-use Rattle.std.proofs.Math.Utf8.{encode}
 use Rattle.std.proofs.lemmas.Bool.{leb-true, le-leb, cond-true, false_from_ne_true, both_ways}
 use Rattle.std.proofs.lemmas.Bool.Decides.{nat_tests}
 use Rattle.std.proofs.lemmas.Option.{cond_some}
 use Rattle.std.proofs.lemmas.List.{length-take-le, take-append-drop}
-use Rattle.std.proofs.lemmas.List.Elements.{All-cons, All-head, All-tail, All-nil, All-weaker}
+use Rattle.std.proofs.lemmas.List.Elements.{All-weaker}
 use Rattle.std.proofs.lemmas.List.Sums.{AllPass-from_list_all, list_all-from_AllPass}
 use Rattle.std.proofs.lemmas.Fmt.{decimal_nonempty}
 use Rattle.std.proofs.lemmas.Str.{chars_past_char, encode_ascii}
@@ -23,8 +22,8 @@ use Rattle.mm_lex.proofs.LexRunLemmas.{both, prefix_len-append, take-front, drop
 use Rattle.mm_lex.proofs.LexNameTests.{is_name-sound, is_name-complete}
 use Rattle.mm_symbols.specs.SymbolText.{seg_text, path_text}
 use Rattle.mm_symbols.specs.SymbolForms.{IsPath}
-use Rattle.mm_symbols.specs.Reading.{Read, ◌>>=◌, past, bytes_in, segment_in, name_in, segments_in, is_path, path_in, until_end}
-use Rattle.mm_symbols.proofs.Readers.{Reads, IsBegun, bind_some, bind_at, some_same, reads_same, reads_behind, reads_tested, reads_until}
+use Rattle.mm_symbols.specs.Reading.{bytes_in, segment_in, name_in, segments_in, is_path, path_in}
+use Rattle.mm_symbols.proofs.Readers.{Reads, IsBegun, bind_some, bind_at, reads_behind, reads_tested, reads_until}
 
 -- there is a first byte, and it is no digit
 abbrev pub BeginsOther : List ℕ → Type 0

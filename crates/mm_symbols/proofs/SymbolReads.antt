@@ -1,8 +1,8 @@
 -- The reader of symbols reads symbols and nothing else.
-use Rattle.std.proofs.Common.{◌≡◌, ℕ, List, [], ◌∷◌, ◌++◌, map, Bool, true, false, cond, ◌&&◌, ◌||◌, eqb, codes, Option, Some, None, refl, sym, ◌∙◌, ap, subst, append_assoc, append-nil, arith, inl, inr, ◌⊎◌}
+use Rattle.std.proofs.Common.{◌≡◌, ℕ, List, [], ◌∷◌, ◌++◌, map, true, ◌&&◌, eqb, codes, Option, Some, None, refl, sym, ◌∙◌, ap, subst, append_assoc, append-nil, arith, inl, inr, ◌⊎◌}
 use Rattle.std.specs.Prelude.{All}
 use Rattle.std.specs.Str.{bytes_eq}
-use Rattle.std.proofs.lemmas.Bool.{or_cases, or_left, or_right, cond-true}
+use Rattle.std.proofs.lemmas.Bool.{or_cases, or_right}
 use Rattle.std.proofs.lemmas.Option.{none-some}
 use Rattle.std.proofs.lemmas.List.Elements.{All-nil, All-cons}
 use Rattle.std.proofs.lemmas.Slice.Eq.{bytes_eq-Decides}
@@ -11,14 +11,13 @@ use Rattle.mm_lex.specs.LexNames.{is_name}
 use Rattle.mm_lex.proofs.LexRunLemmas.{both}
 use Rattle.mm_lex.proofs.LexNameTests.{is_name-sound, is_name-complete}
 use Rattle.mm_symbols.specs.declared.form.SymType.{SymType}
-use Rattle.mm_symbols.specs.declared.form.SymMethod.{SymMethod}
 use Rattle.mm_symbols.specs.declared.form.SymItem.{SymItem}
 use Rattle.mm_symbols.specs.declared.form.SymItem.TheVariants as items
 use Rattle.mm_symbols.specs.declared.form.SymbolForm.{SymbolForm}
 use Rattle.mm_symbols.specs.SymbolText.{seg_text, path_text, args_text, type_text, method_text, item_text, krate_text, symbol_text}
 use Rattle.mm_symbols.specs.SymbolForms.{IsPath, IsDrop, IsWithin, IsMethod, IsItem, IsKrate, IsFormWithin}
-use Rattle.mm_symbols.specs.Reading.{Read, ◌>>=◌, past, made_in, pair_in, if_in, segment_in, name_in, segments_in, is_path, path_in, args_in, named_in, within_in, is_drop_trait, names_method, MethodParts, method_of, method_in, item_in, only_if_done, krate_in, symbol_in}
-use Rattle.mm_symbols.proofs.Readers.{Reads, bind_some, bind_at, some_same, reads_pair, reads_tested, reads_made, reads_same, behind_sound, behind_complete, pick, past-sound, past-complete}
+use Rattle.mm_symbols.specs.Reading.{Read, ◌>>=◌, past, pair_in, if_in, segment_in, name_in, segments_in, is_path, args_in, named_in, within_in, is_drop_trait, names_method, MethodParts, method_of, method_in, item_in, only_if_done, krate_in, symbol_in}
+use Rattle.mm_symbols.proofs.Readers.{Reads, bind_some, bind_at, some_same, reads_pair, reads_tested, reads_made, behind_sound, behind_complete, pick, past-sound}
 use Rattle.mm_symbols.proofs.NameReads.{IsSegment, IsName-segment, reads_segment, reads_segments, reads_name, reads_path, is_path-sound, is_path-complete}
 use Rattle.mm_symbols.proofs.TypeReads.{reads_type, reads_args, reads_named}
 

@@ -1,6 +1,6 @@
 -- Types are read.
-use Rattle.std.proofs.Common.{◌≡◌, ◌≢◌, ℕ, zero, suc, List, [], ◌∷◌, ◌++◌, length, map, Bool, true, false, not, cond, eqb, codes, Option, Some, None, refl, sym, ◌∙◌, ap, subst, append_assoc, append-nil, length-append, arith}
-use Rattle.std.specs.Prelude.{All, flat_map}
+use Rattle.std.proofs.Common.{◌≡◌, ◌≢◌, ℕ, zero, suc, List, [], ◌∷◌, ◌++◌, length, map, true, not, eqb, codes, Some, refl, sym, ◌∙◌, ap, subst, append_assoc, append-nil, length-append, arith}
+use Rattle.std.specs.Prelude.{All}
 use Rattle.std.specs.List.{concat}
 use Rattle.std.proofs.lemmas.Bool.{eqb-true, both_ways, false_from_ne_true, not-true}
 use Rattle.std.proofs.lemmas.Option.{none-some}
@@ -12,8 +12,8 @@ use Rattle.mm_symbols.specs.declared.form.SymType.{SymType}
 use Rattle.mm_symbols.specs.SymTree.{sym_node, sym_head, sym_children, sym_node-parts, sym_head-node, sym_children-node}
 use Rattle.mm_symbols.specs.SymbolText.{path_text, args_text, signature_text, layer_text, type_text}
 use Rattle.mm_symbols.specs.SymbolForms.{IsPath, IsHead, IsWithin}
-use Rattle.mm_symbols.specs.Reading.{Read, ◌>>=◌, past, made_in, pair_in, if_in, until_end, path_in, args_in, named_in, is_one, tuple_in, single_in, signature_in, defined_in, behind_letter, shape_in, node_in, within_in}
-use Rattle.mm_symbols.proofs.Readers.{Reads, IsBegun, bind_some, bind_at, some_same, reads_same, reads_behind, reads_pair, reads_tested, reads_made, reads_until, concat-map, behind_sound, behind_complete, pick}
+use Rattle.mm_symbols.specs.Reading.{Read, made_in, pair_in, if_in, until_end, args_in, named_in, is_one, tuple_in, single_in, signature_in, defined_in, shape_in, node_in, within_in}
+use Rattle.mm_symbols.proofs.Readers.{Reads, IsBegun, some_same, reads_same, reads_behind, reads_pair, reads_tested, reads_made, reads_until, concat-map, behind_sound, behind_complete, pick}
 use Rattle.mm_symbols.proofs.NameReads.{reads_path}
 use Rattle.mm_symbols.proofs.TextLemmas.{type_text-parts, type_text-node}
 

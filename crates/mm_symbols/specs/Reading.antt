@@ -1,5 +1,5 @@
 -- Reading a symbol from the front of bytes: what each reader reads, and the bytes behind it.
-use Rattle.std.specs.Prelude.{◌≡◌, ℕ, zero, suc, eqb, leb, Bool, true, false, not, cond, ◌&&◌, ◌||◌, List, [], ◌∷◌, ◌++◌, length, take, drop, codes, Option, Some, None, Result, Ok, Err}
+use Rattle.std.specs.Prelude.{◌≡◌, ℕ, zero, suc, eqb, leb, Bool, false, not, cond, ◌&&◌, ◌||◌, List, [], ◌∷◌, ◌++◌, length, take, drop, codes, Option, Some, None, Result, Ok, Err}
 use Rattle.std.specs.List.{prefix_len, list_all}
 use Rattle.std.specs.Char.{is_ascii_digit}
 use Rattle.std.specs.Str.{bytes_eq}
@@ -111,6 +111,14 @@ signature_in inner = made_in (λ x. (FnPtr, x.0 ++ x.1 ∷ [])) (pair_in (until_
 unfoldable pub defined_in : (List (List ℕ) → SymHead) → (List ℕ → Read SymType) → List ℕ → Read (SymHead × List SymType)
 defined_in make inner = made_in (λ x. (make x.0, x.1)) (named_in inner)
 
+-- the same, behind the letter of the definition
+abbrev pub defined_behind : (List ℕ → Read SymType) → ℕ → List ℕ → Read (SymHead × List SymType)
+defined_behind inner c bytes =
+    cond (eqb c 71) (defined_in FnItem inner bytes)
+    (cond (eqb c 67) (defined_in Closure inner bytes)
+    (cond (eqb c 68) (defined_in Dyn inner bytes)
+    (cond (eqb c 65) (defined_in Adt inner bytes) None)))
+
 -- the head of a type and the types below it, behind the letter with which they are told
 abbrev pub behind_letter : (List ℕ → Read SymType) → ℕ → List ℕ → Read (SymHead × List SymType)
 behind_letter inner c bytes =
@@ -119,11 +127,7 @@ behind_letter inner c bytes =
     (cond (eqb c 84) (tuple_in inner bytes)
     (cond (eqb c 82) (single_in Ref inner bytes)
     (cond (eqb c 66) (single_in Boxed inner bytes)
-    (cond (eqb c 80) (signature_in inner bytes)
-    (cond (eqb c 71) (defined_in FnItem inner bytes)
-    (cond (eqb c 67) (defined_in Closure inner bytes)
-    (cond (eqb c 68) (defined_in Dyn inner bytes)
-    (cond (eqb c 65) (defined_in Adt inner bytes) None)))))))))
+    (cond (eqb c 80) (signature_in inner bytes) (defined_behind inner c bytes))))))
 
 unfoldable pub shape_in : (List ℕ → Read SymType) → List ℕ → Read (SymHead × List SymType)
 shape_in inner [] = None

@@ -1,12 +1,10 @@
 -- The types of symbols as finite trees. Each is a head over a list of children.
-use Rattle.std.specs.Prelude.{◌≡◌, List, [], ◌∷◌, map, All}
-use Rattle.std.proofs.Common.{ap, subst}
-use Rattle.std.proofs.lemmas.List.Elements.{All-nil, All-cons}
+use Rattle.std.specs.Prelude.{◌≡◌, List, map}
+use Rattle.std.proofs.Common.{ap}
 use Rattle.mm_symbols.specs.declared.form.SymHead.{SymHead}
 use Rattle.mm_symbols.specs.declared.form.SymType.{SymType}
-use Rattle.mm_symbols.specs.declared.form.SymType.TheOpen.{SymType-F}
 use Rattle.mm_symbols.specs.declared.form.SymType.TheViews.{out-SymType, roll-SymType, roll-out-SymType, out-roll-SymType}
-use Rattle.mm_symbols.specs.declared.form.SymType.TheFolds.{fold-SymType, fold-roll-SymType, fold_out-SymType, ind-SymType}
+use Rattle.mm_symbols.specs.declared.form.SymType.TheFolds.{fold-SymType, fold-roll-SymType, fold_out-SymType}
 
 -- the type with this head and these children
 abbrev pub sym_node : SymHead → List SymType → SymType

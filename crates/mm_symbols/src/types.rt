@@ -1,5 +1,5 @@
 ghost use Rattle.std.specs.Prelude.{length};
-ghost use Rattle.mm_symbols.specs.Reading.{Gives, each_in, until_end, args_in, named_in, tuple_in, single_in, signature_in, shape_in, node_in, within_in};
+ghost use Rattle.mm_symbols.specs.Reading.{Gives, each_in, until_end, args_in, named_in, tuple_in, single_in, signature_in, defined_behind, shape_in, node_in, within_in};
 
 use crate::form::{Segs, SymHead, SymType, SymTypes};
 use crate::pieces::{past, path, starts};
@@ -30,7 +30,7 @@ fn node(alloc: Global, levels: u32, bytes: &[u8]) -> Result<(SymType, &[u8]), Te
 
 /// The head of a type and the types below it, which nest no deeper than so many levels.
 #[cycle(types)]
-#[tactic(auto, unfolding(crate::specs::Reading::shape_in, crate::specs::Reading::defined_in))]
+#[tactic(auto, unfolding(crate::specs::Reading::shape_in))]
 fn shape(
     alloc: Global,
     levels: u32,
@@ -48,20 +48,37 @@ fn shape(
         b'R' => single(alloc, SymHead::Ref, levels, rest),
         b'B' => single(alloc, SymHead::Boxed, levels, rest),
         b'P' => signature(alloc, levels, rest),
+        letter => defined(alloc, levels, letter, rest),
+    }
+}
+
+/// A definition, with its arguments, at the head that its letter tells.
+#[cycle(types)]
+#[inline(never)]
+#[tactic(auto, unfolding(crate::specs::Reading::defined_in))]
+fn defined(
+    alloc: Global,
+    levels: u32,
+    letter: u8,
+    bytes: &[u8],
+) -> Result<((SymHead, SymTypes), &[u8]), TextError>
+    ensures { Gives (λ x. (x.0, x.1.now)) result (defined_behind (within_in levels) letter bytes.now) }
+{
+    match letter {
         b'G' => {
-            let ((names, args), rest) = named(alloc, levels, rest)?;
+            let ((names, args), rest) = named(alloc, levels, bytes)?;
             Ok(((SymHead::FnItem(names), args), rest))
         }
         b'C' => {
-            let ((names, args), rest) = named(alloc, levels, rest)?;
+            let ((names, args), rest) = named(alloc, levels, bytes)?;
             Ok(((SymHead::Closure(names), args), rest))
         }
         b'D' => {
-            let ((names, args), rest) = named(alloc, levels, rest)?;
+            let ((names, args), rest) = named(alloc, levels, bytes)?;
             Ok(((SymHead::Dyn(names), args), rest))
         }
         b'A' => {
-            let ((names, args), rest) = named(alloc, levels, rest)?;
+            let ((names, args), rest) = named(alloc, levels, bytes)?;
             Ok(((SymHead::Adt(names), args), rest))
         }
         _ => Err(TextError::BadText),

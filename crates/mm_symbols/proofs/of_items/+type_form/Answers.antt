@@ -1,4 +1,4 @@
-use Rattle.std.proofs.Common.{◌≡◌, ◌≤◌, ◌++◌, ◌∙◌, length, map, drop, sym, ap, subst, append-nil}
+use Rattle.std.proofs.Common.{◌≡◌, ◌≤◌, ◌++◌, ◌∙◌, length, map, sym, ap, subst, append-nil}
 use Rattle.std.proofs.lemmas.List.{drop_all}
 use Rattle.mm_terms.specs.Tree.{head_of, children_of}
 use Rattle.mm_symbols.specs.ItemForms.{head_form, type_form}

@@ -1,6 +1,6 @@
 use Rattle.mm_lex.specs.declared.text_error.TextError.{TextError}
 use Rattle.mm_symbols.specs.declared.form.SymbolForm.{SymbolForm}
-use Rattle.std.proofs.Common.{◌≡◌, ◌∙◌, List, ℕ, Option, Some, None, Err, sym, ap, subst}
+use Rattle.std.proofs.Common.{◌≡◌, ◌∙◌, List, ℕ, None, Err, sym, ap, subst}
 use Rattle.std.proofs.lemmas.Option.{none-some}
 use Rattle.mm_symbols.specs.SymbolForms.{IsSymbol}
 use Rattle.mm_symbols.specs.Reading.{Gives, symbol_in}

@@ -27,6 +27,9 @@ decreases-single l = 9 * l.levels + 5
 abbrev pub decreases-signature : goal.decreases-signature
 decreases-signature l = 9 * l.levels + 5
 
+abbrev pub decreases-defined : goal.decreases-defined
+decreases-defined l = 9 * l.levels + 5
+
 abbrev pub decreases-shape : goal.decreases-shape
 decreases-shape l = 9 * l.levels + 6
 

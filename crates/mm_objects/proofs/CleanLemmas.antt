@@ -34,11 +34,8 @@ use Rattle.mm_objects.specs.declared.objects.ObjCallee.TheVariants as callees
 use Rattle.mm_objects.specs.ObjectNames.{is_graphic, IsCodeSymbol, IsUnitName}
 use Rattle.mm_objects.specs.ObjectText.{Word, Line, base_text, place_text, truth_text, operand_text, op_text, rvalue_words, instr_words, arm_text, callee_text, end_words, label_line, block_lines, linkage_text, fn_line, def_lines, unit_lines, first_line, main_line, last_line, lines_of}
 use Rattle.mm_objects.specs.ObjectForms.{IsBase, IsPlace, IsOperand, IsRvalue, IsInstr, IsArm, IsCallee, IsEnd, IsBlock, IsDef, IsUnit, AreObjects}
-use Rattle.mm_objects.proofs.NameLaws.{symbol-graphic, unit_name-graphic}
-
--- no blank and no line end stands in it
-abbrev pub IsClean : Word → Type 0
-IsClean w = list_all is_graphic w ≡ true
+use Rattle.mm_objects.proofs.NameLaws.{unit_name-graphic}
+use Rattle.mm_objects.proofs.SymbolBytes.{IsClean, joined, number-clean, symbol-clean}
 
 abbrev pub AreClean : Line → Type 0
 AreClean ws = list_all (list_all is_graphic) ws ≡ true
@@ -47,23 +44,6 @@ AreClean ws = list_all (list_all is_graphic) ws ≡ true
 pub record IsCleanLine (ws : Line) : Type 0 where
   pub some : ws ≢ []
   pub each : AreClean ws
-
-joined : (a b : Word) → IsClean a → IsClean b → IsClean (a ++ b)
-joined a b x y = rw (list_all-append, x, y) refl
-
-digit-graphic : (d : ℕ) → is_ascii_digit d ≡ true → is_graphic d ≡ true
-digit-graphic d h =
-    let apart : (c : ℕ) → is_ascii_digit c ≡ false → eqb d c ≡ false = λ c no_digit. false_from_ne_true (eqb d c) (λ e. both_ways (is_ascii_digit c) no_digit (subst (λ x. is_ascii_digit x ≡ true) (eqb-true d c e) h)) in
-    rw (apart 32 refl, apart 10 refl) refl
-
-digits-clean : (ds : Word) → list_all is_ascii_digit ds ≡ true → IsClean ds
-digits-clean [] h = refl
-digits-clean (d ∷ ds) h =
-    let p = both (is_ascii_digit d) (list_all is_ascii_digit ds) h in
-    rw (digit-graphic d p.0, digits-clean ds p.1) refl
-
-number-clean : (n : ℕ) → n < 2 ^ 64 → IsClean (decimal n)
-number-clean n fits = digits-clean (decimal n) (decimal-digits n fits)
 
 -- a line that has a first word
 begins : (w : Word) (ws : Line) → AreClean (w ∷ ws) → IsCleanLine (w ∷ ws)
@@ -97,7 +77,7 @@ arm-clean : (blocks : ℕ) (arm : Arm) → IsArm blocks arm → IsClean (arm_tex
 arm-clean blocks arm is = joined (decimal arm.number ++ codes ":") (decimal arm.label) (joined (decimal arm.number) (codes ":") (number-clean arm.number is.0) refl) (number-clean arm.label (omega (arith, is.1.1)))
 
 callee-clean : (callee : ObjCallee) → IsCallee callee → IsClean (callee_text callee)
-callee-clean (callees.Fn symbol) is = joined (codes "fn:") symbol refl (symbol-graphic symbol is)
+callee-clean (callees.Fn symbol) is = joined (codes "fn:") symbol refl (symbol-clean symbol is)
 
 linkage-clean : (link : Linkage) → IsClean (linkage_text link)
 linkage-clean External = refl
@@ -158,7 +138,7 @@ def-clean : (d : ObjDef) → IsDef d → All IsCleanLine (def_lines d)
 def-clean (Code symbol link params locals blocks) is =
     All-cons IsCleanLine (fn_line symbol link params locals (length blocks)) (flat_map block_lines (enumerate_from 0 blocks))
     (begins (codes "fn") (symbol ∷ linkage_text link ∷ decimal params ∷ decimal locals ∷ decimal (length blocks) ∷ [])
-    (rw (symbol-graphic symbol is.symbol_is, linkage-clean link, number-clean params (omega (arith, is.above_params, is.few_locals)), number-clean locals (omega (arith, is.few_locals)), number-clean (length blocks) is.few_blocks) refl))
+    (rw (symbol-clean symbol is.symbol_is, linkage-clean link, number-clean params (omega (arith, is.above_params, is.few_locals)), number-clean locals (omega (arith, is.few_locals)), number-clean (length blocks) is.few_blocks) refl))
     (blocks-clean locals (length blocks) 0 blocks (omega (arith, is.few_blocks)) is.each)
 
 unit-clean : (u : ObjUnit) → IsUnit u → All IsCleanLine (unit_lines u)
@@ -169,5 +149,5 @@ pub lines-clean : (o : Objects) → AreObjects o → All IsCleanLine (lines_of o
 lines-clean o are =
     let units = flat_map unit_lines o.units ++ last_line ∷ [] in
     All-cons IsCleanLine first_line (main_line o.main ∷ units) (begins (codes "objects") (codes "1" ∷ []) refl)
-    (All-cons IsCleanLine (main_line o.main) units (begins (codes "main") (o.main ∷ []) (rw (symbol-graphic o.main are.main_is) refl))
+    (All-cons IsCleanLine (main_line o.main) units (begins (codes "main") (o.main ∷ []) (rw (symbol-clean o.main are.main_is) refl))
     (All-append IsCleanLine (flat_map unit_lines o.units) (last_line ∷ []) (all-lines IsUnit unit_lines unit-clean o.units are.each) (All-cons IsCleanLine last_line [] (begins (codes "end") [] refl) (All-nil IsCleanLine))))

@@ -8,6 +8,7 @@ pub mod HeaderReads
 pub mod SoundSteps
 pub mod AgainSteps
 pub mod GoingOn
+pub mod SymbolBytes
 pub mod CleanLemmas
 pub mod SplitLemmas
 pub mod TextLaws

@@ -8,7 +8,8 @@ use Rattle.mm_objects.specs.declared.objects.Objects.{Objects}
 use Rattle.mm_objects.specs.ObjectNames.{is_graphic}
 use Rattle.mm_objects.specs.ObjectText.{Word, Line, line_text, written, lines_of, objects_text}
 use Rattle.mm_objects.specs.ObjectForms.{AreObjects}
-use Rattle.mm_objects.proofs.CleanLemmas.{IsClean, AreClean, IsCleanLine, lines-clean}
+use Rattle.mm_objects.proofs.SymbolBytes.{IsClean}
+use Rattle.mm_objects.proofs.CleanLemmas.{AreClean, IsCleanLine, lines-clean}
 
 -- the byte does not stand in it
 abbrev pub HasNo : ℕ → List ℕ → Type 0

@@ -17,7 +17,7 @@ use Rattle.mm_objects.specs.declared.objects.ObjOperand.TheVariants as operands
 use Rattle.mm_objects.specs.declared.objects.ObjCallee.{ObjCallee}
 use Rattle.mm_objects.specs.declared.objects.ObjCallee.TheVariants as callees
 use Rattle.mm_lex.specs.LexReading.{number_in}
-use Rattle.mm_objects.specs.ObjectNames.{IsCodeSymbol, IsUnitName, is_code_symbol, is_unit_name}
+use Rattle.mm_objects.specs.ObjectNames.{IsCodeSymbol}
 use Rattle.mm_objects.specs.ObjectText.{Word, base_text, place_text, truth_text, operand_text, op_text, linkage_text, callee_text}
 use Rattle.mm_objects.specs.ObjectForms.{IsBelow, IsBase, IsPlace, IsOperand, IsCallee}
 use Rattle.mm_objects.specs.LineReading.{◌>>=◌, behind, below_in, place_in, copied_in, moved_in, truth_in, literal_in, operand_in, op_in, linkage_in, symbol_in, unit_name_in, callee_in}

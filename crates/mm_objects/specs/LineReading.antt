@@ -22,7 +22,9 @@ use Rattle.mm_objects.specs.declared.objects.ObjEnd.TheVariants as ends
 use Rattle.mm_objects.specs.declared.objects.ObjCallee.{ObjCallee}
 use Rattle.mm_objects.specs.declared.objects.ObjCallee.TheVariants as callees
 use Rattle.mm_objects.specs.declared.progress.Header.{Header}
-use Rattle.mm_objects.specs.ObjectNames.{is_code_symbol, is_unit_name}
+use Rattle.mm_symbols.specs.declared.form.SymbolForm.{SymbolForm}
+use Rattle.mm_symbols.specs.Reading as symbols
+use Rattle.mm_objects.specs.ObjectNames.{is_code, is_unit_name}
 use Rattle.mm_objects.specs.ObjectText.{Word, Line}
 
 infixl 10 ◌>>=◌
@@ -83,6 +85,13 @@ unfoldable pub linkage_in : Word → Option Linkage
 linkage_in word =
     cond (bytes_eq word (codes "External")) (Some External)
     (cond (bytes_eq word (codes "Internal")) (Some Internal) None)
+
+abbrev pub is_form_of_code : Option SymbolForm → Bool
+is_form_of_code None = false
+is_form_of_code (Some form) = is_code form.item
+
+unfoldable pub is_code_symbol : Word → Bool
+is_code_symbol word = is_form_of_code (symbols.symbol_in 4096 word)
 
 unfoldable pub symbol_in : Word → Option (List ℕ)
 symbol_in word = cond (is_code_symbol word) (Some word) None

@@ -11,7 +11,6 @@ mod pieces;
 mod progress;
 mod reading;
 mod steps;
-mod stub;
 mod words;
 mod writing;
 

@@ -2,14 +2,15 @@ ghost use Rattle.std.specs.Prelude.{◌≡◌, ◌==◌, codes, map, IfOk, Optio
 ghost use Rattle.std.specs.List.{slice_split, list_all};
 ghost use Rattle.std.specs.Option.{option_map};
 ghost use Rattle.std.specs.Str.{bytes_eq};
-ghost use Rattle.mm_objects.specs.ObjectNames.{is_graphic, is_code_symbol, is_unit_name};
-ghost use Rattle.mm_objects.specs.LineReading.{behind, place_in, copied_in, moved_in, truth_in, literal_in, operand_in, op_in, linkage_in, symbol_in, unit_name_in, callee_in};
+ghost use Rattle.mm_objects.specs.ObjectNames.{is_graphic, is_code, is_unit_name};
+ghost use Rattle.mm_objects.specs.LineReading.{is_form_of_code, is_code_symbol, behind, place_in, copied_in, moved_in, truth_in, literal_in, operand_in, op_in, linkage_in, symbol_in, unit_name_in, callee_in};
 ghost use Rattle.mm_objects.specs.Given.{Gives};
 
 use crate::line_error::LineError;
 use crate::number::{number, number_below};
 use crate::objects::{Linkage, ObjBase, ObjCallee, ObjOperand, ObjPlace};
 use mm_collect::Op;
+use mm_symbols::{SymItem, SymbolForm, read_symbol};
 use mm_terms::Text;
 use std::alloc::{AllocError, Global};
 
@@ -134,18 +135,49 @@ fn all_graphic(bytes: &[u8]) -> bool
 }
 
 fn is_graphic(bytes: &[u8]) -> bool
-    ensures code { result ≡ is_code_symbol bytes.now }
-    ensures unit { result ≡ is_unit_name bytes.now }
+    ensures { result ≡ is_unit_name bytes.now }
 {
     0 < bytes.len() && all_graphic(bytes)
 }
 
-/// The symbol of a function.
+/// Whether it is code that a symbol names.
+fn is_code(item: &SymItem) -> bool
+    ensures { result ≡ is_code item.now }
+{
+    match item {
+        SymItem::Fn(..)
+        | SymItem::Closure(..)
+        | SymItem::Method(_)
+        | SymItem::Glue(_)
+        | SymItem::Shim(_) => true,
+        SymItem::Static(_) => false,
+    }
+}
+
+/// Whether it is a symbol, and one of code.
+fn is_form_of_code(found: &Option<SymbolForm>) -> bool
+    ensures { result ≡ is_form_of_code found.now }
+{
+    match found {
+        Some(form) => is_code(&form.item),
+        None => false,
+    }
+}
+
+/// Whether a word is the symbol of code.
+fn is_code_symbol(alloc: Global, word: &[u8]) -> Result<bool, AllocError>
+    ensures { IfOk result (λ is. is ≡ is_code_symbol word.now) }
+{
+    let found = read_symbol(alloc, word)?;
+    Ok(is_form_of_code(&found))
+}
+
+/// The symbol of code.
 #[tactic(auto, unfolding(crate::specs::LineReading::symbol_in))]
 pub fn symbol(alloc: Global, word: &[u8]) -> Result<Text, LineError>
     ensures { Gives result (symbol_in word.now) }
 {
-    if !is_graphic(word) {
+    if !is_code_symbol(alloc, word)? {
         return Err(LineError::Unfit);
     }
     Ok(Text::from_slice(alloc, word)?)

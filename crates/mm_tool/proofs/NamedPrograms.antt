@@ -1,6 +1,5 @@
 -- What a text means is a well-formed program with names, whose members are items that symbols tell apart.
-use Rattle.std.proofs.Common.{◌≡◌, ℕ, ◌<◌, List, length, refl, ap}
-use Rattle.std.specs.Prelude.{All}
+use Rattle.std.proofs.Common.{◌≡◌, ℕ, List}
 use Rattle.std.proofs.lemmas.List.Elements.{All-weaker}
 use Rattle.mm_terms.specs.Closure.{IsMember}
 use Rattle.mm_terms.specs.declared.ids.DefId.{DefId}

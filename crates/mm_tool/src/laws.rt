@@ -11,8 +11,8 @@ ghost use Rattle.mm_lex.specs.LexTokens.{IsName};
 ghost use Rattle.mm_symbols.specs.ItemForms.{HasNames, IsItemIn};
 ghost use Rattle.mm_tool.specs.Report.{Means};
 
-/// What a text means is a well-formed program, each function of which has a path, and each its own. So its members are
-/// items that symbols tell apart.
+/// What a text means is a well-formed program: its crate has a name, and each function has a path, no two the same. So
+/// its members are items that symbols tell apart.
 pub fn means_names()
     ensures well_formed { (text : List ℕ) (p : Program) → Means text p → IsWellFormed p }
     ensures krate { (text : List ℕ) (p : Program) → Means text p → IsName p.krate }

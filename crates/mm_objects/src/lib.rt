@@ -21,3 +21,6 @@ pub use objects::{
 };
 pub use reading::read_objects;
 pub use writing::write_objects;
+
+#[cfg(test)]
+mod tests;

@@ -1,6 +1,0 @@
-pub mod Keys
-pub mod Names
-pub mod Finding
-pub mod Least
-pub mod Firsts
-pub mod Clashing

@@ -1,9 +1,0 @@
-pub mod Renaming
-pub mod MemoryLaws
-pub mod FormLaws
-pub mod RunLaws
-pub mod Places
-pub mod Joint
-pub mod Named
-pub mod Simulation
-pub mod Locals

@@ -1,2 +1,0 @@
-pub mod SetUp
-pub mod Runs

@@ -94,12 +94,7 @@ fn show(alloc: Global, product: Product, p: &Program, items: &[Item]) -> Result<
 }
 
 /// The verdict on a program: what is asked for, of its items, or that there are too many, or that one is too long.
-fn judge(
-    alloc: Global,
-    product: Product,
-    p: &Program,
-    opts: &Opts,
-) -> Result<Answer, NoMemory>
+fn judge(alloc: Global, product: Product, p: &Program, opts: &Opts) -> Result<Answer, NoMemory>
     ensures { IfOk result (λ answer. IsVerdict product p.now opts.now answer.status answer.output.items) }
 {
     match collect(alloc, p, opts) {

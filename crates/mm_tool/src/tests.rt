@@ -3,6 +3,7 @@ use crate::answer::{answer_to, read_program};
 use mm_collect::Opts;
 use mm_lex::lex;
 use mm_load::load;
+use mm_objects::{read_objects, write_objects};
 use mm_outside::{BytesSink, BytesSource, NoMemory, Source};
 use mm_parse::parse;
 use mm_terms::{DefId, Item, Tys};
@@ -13,7 +14,8 @@ use std::test::Fail;
 const ONE_FUNCTION: &[u8] = b"crate app; fn main() { bb0: { return } }";
 
 /// The objects of that.
-const ONE_FUNCTION_BUILT: &[u8] = b"objects 1\nmain _MFN3app4mainEIE\nunit app/app.stable\nfn _MFN3app4mainEIE External 0 1 1\nbb0\nreturn\nend\n";
+const ONE_FUNCTION_BUILT: &[u8] =
+    b"objects 1\nmain _MFN3app4mainEIE\nunit app/app.stable\nfn _MFN3app4mainEIE External 0 1 1\nbb0\nreturn\nend\n";
 
 /// The room of a sink that takes every output of these tests.
 const ROOM: usize = 1_048_576;
@@ -53,6 +55,8 @@ fn one_function_passes_each_call(rt: HostRuntime) -> Result<(), Fail> {
     let built = answer_to(alloc, Product::Objects, ONE_FUNCTION, &Opts::default())?;
     assert_eq!(rt; built.status, 0);
     assert_eq!(rt; built.output.as_slice(), ONE_FUNCTION_BUILT);
+    let objects = read_objects(alloc, &built.output)?;
+    assert_eq!(rt; write_objects(alloc, &objects)?, built.output);
     Ok(())
 }
 

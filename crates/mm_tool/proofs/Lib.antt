@@ -6,3 +6,4 @@ pub mod Reports
 pub mod SortedLines
 pub mod TypeTextLemmas
 pub mod NamedPrograms
+pub mod Verdicts

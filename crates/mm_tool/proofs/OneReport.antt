@@ -1,6 +1,6 @@
 -- A command line and a text have one report.
 use Rattle.std.proofs.Common.{◌≡◌, ℕ, List, ◌++◌, map, sym, ◌∙◌, ap, subst, inl, inr, codes}
-use Rattle.std.specs.Prelude.{decimal}
+use Rattle.std.specs.Prelude.{Contains, decimal}
 use Rattle.std.proofs.lemmas.List.Sorted.{IsPermutation-map, IsPermutation-trans, IsPermutation-sym}
 use Rattle.mm_collect.specs.declared.program.Program.{Program}
 use Rattle.mm_collect.specs.declared.program.Opts.{Opts}
@@ -11,6 +11,7 @@ use Rattle.mm_collect.specs.Uses.{uses_of}
 use Rattle.mm_collect.specs.Verdict.{IsAccepted}
 use Rattle.mm_objects.specs.Emitted.{HaveOwnSymbols}
 use Rattle.mm_objects.specs.ObjectText.{objects_text}
+use Rattle.mm_symbols.specs.ItemForms.{IsItemIn}
 use Rattle.mm_symbols.proofs.ItemLaws.{item_told}
 use Rattle.mm_emit.proofs.OneEmission.{emission_one}
 use Rattle.std.proofs.lemmas.List.Elements.{All-contains}
@@ -33,7 +34,7 @@ Same s t a b = (s ≡ t) × (a ≡ b)
 -- the items of what a text means have symbols of their own
 own_symbols : (text : List ℕ) (p : Program) (opts : Opts) (items : List Item) → Means text p → IsAccepted p opts items → HaveOwnSymbols p items
 own_symbols text p opts items m accepted x y inside there same =
-    let member = λ z here. members_in text p opts.length z m (All-contains (IsMember (roots_of p) (uses_of p opts.length)) items z accepted.members.each here) in
+    let member : (z : Item) → Contains items z → IsItemIn p z = λ z here. members_in text p opts.length z m (All-contains (IsMember (roots_of p) (uses_of p opts.length)) items z accepted.members.each here) in
     item_told p (means_names text p m) x y (member x inside) (member y there) same
 
 shown_one : (product : Product) (text : List ℕ) (p : Program) (opts : Opts) (s t : ℕ) (a b : List ℕ) → Means text p → IsShown product p opts s a → IsShown product p opts t b → Same s t a b

@@ -6,6 +6,8 @@ use Rattle.mm_outside.specs.Whole.{WritesFront}
 use Rattle.mm_terms.specs.declared.item.Item.{Item}
 use Rattle.mm_collect.specs.declared.program.Program.{Program}
 use Rattle.mm_collect.specs.declared.program.Opts.{Opts}
+use Rattle.mm_collect.specs.declared.fault.CollectFault.{CollectFault}
+use Rattle.mm_collect.specs.declared.fault.CollectFault.TheVariants as fault
 use Rattle.mm_collect.specs.Verdict.{IsAccepted, IsTooMany, IsTooLong}
 use Rattle.mm_parse.specs.declared.ast.Crate.{Crate}
 use Rattle.mm_lex.specs.declared.token.Token.{Token}
@@ -65,6 +67,13 @@ pub record SaysTooLong (p : Program) (opts : Opts) (status : ℕ) (output : List
   pub n : ℕ
   pub long : IsTooLong p opts path n
   pub output_is : output ≡ line (codes "error: type length " ++ decimal n ++ codes " in " ++ path)
+
+-- what is told of a fault of collection
+abbrev pub Tells : Program → CollectFault → ℕ → List ℕ → Type 0
+Tells p (fault.TooMany n) status output = (status ≡ 5) × (output ≡ line (codes "error: more than " ++ decimal n ++ codes " items in crate " ++ p.krate))
+Tells p (fault.TypeLength path n) status output = (status ≡ 6) × (output ≡ line (codes "error: type length " ++ decimal n ++ codes " in " ++ path))
+Tells p (fault.NoImpl text) status output = ⊥
+Tells p fault.NoMemory status output = ⊥
 
 -- the verdict on a program
 abbrev pub IsVerdict : Product → Program → Opts → ℕ → List ℕ → Type 0

@@ -1,10 +1,10 @@
-ghost use Rattle.std.specs.Prelude.{◌≡◌, ℕ, List, ◌++◌, ◌≤◌, length, codes, decimal, IfOk};
+ghost use Rattle.std.specs.Prelude.{◌≡◌, ℕ, List, ◌≤◌, length, IfOk};
 ghost use Rattle.mm_collect.specs.declared.program.Program.{Program};
-ghost use Rattle.mm_tool.specs.Report.{Means, IsObjectsOf, Shows, IsVerdict, IsAnswer, line};
+ghost use Rattle.mm_tool.specs.Report.{Means, IsObjectsOf, Shows, IsVerdict, IsAnswer};
 
 use crate::listing::list_items;
-use itoa::Buffer;
-use mm_collect::{CollectFault, Opts, Program, collect};
+use crate::refusal::refuse;
+use mm_collect::{Opts, Program, collect};
 use mm_emit::emit_one;
 use mm_lex::{TextError, lex};
 use mm_load::load;
@@ -49,32 +49,6 @@ pub fn one_meaning()
     ensures { (text : List ℕ) (p q : Program) → Means text p → Means text q → p ≡ q }
 {}
 
-/// The line of a refusal of too many items.
-fn too_many(alloc: Global, items: u32, krate: &[u8]) -> Result<Vec<u8>, NoMemory>
-    ensures { IfOk result (λ output. output.items ≡ line (codes "error: more than " ++ decimal items ++ codes " items in crate " ++ krate.now)) }
-{
-    let mut buffer = Buffer::new();
-    let mut output = Vec::from_slice(alloc, b"error: more than ")?;
-    output.extend_from_slice(buffer.format(items).as_bytes())?;
-    output.extend_from_slice(b" items in crate ")?;
-    output.extend_from_slice(krate)?;
-    output.push(b'\n')?;
-    Ok(output)
-}
-
-/// The line of a refusal of an instance that is too long.
-fn too_long(alloc: Global, path: &[u8], length: u32) -> Result<Vec<u8>, NoMemory>
-    ensures { IfOk result (λ output. output.items ≡ line (codes "error: type length " ++ decimal length ++ codes " in " ++ path.now)) }
-{
-    let mut buffer = Buffer::new();
-    let mut output = Vec::from_slice(alloc, b"error: type length ")?;
-    output.extend_from_slice(buffer.format(length).as_bytes())?;
-    output.extend_from_slice(b" in ")?;
-    output.extend_from_slice(path)?;
-    output.push(b'\n')?;
-    Ok(output)
-}
-
 /// The text of objects of the items.
 fn build(alloc: Global, p: &Program, items: &[Item]) -> Result<Vec<u8>, NoMemory>
     ensures { IfOk result (λ output. IsObjectsOf p.now items.now output.items) }
@@ -93,25 +67,24 @@ fn show(alloc: Global, product: Product, p: &Program, items: &[Item]) -> Result<
     }
 }
 
+/// What is asked for, of the items of an accepted program.
+fn accept(alloc: Global, product: Product, p: &Program, items: &[Item]) -> Result<Answer, NoMemory>
+    ensures status { IfOk result (λ answer. answer.status ≡ 0) }
+    ensures shown { IfOk result (λ answer. Shows product p.now items.now answer.output.items) }
+{
+    Ok(Answer {
+        status: 0,
+        output: show(alloc, product, p, items)?,
+    })
+}
+
 /// The verdict on a program: what is asked for, of its items, or that there are too many, or that one is too long.
 fn judge(alloc: Global, product: Product, p: &Program, opts: &Opts) -> Result<Answer, NoMemory>
     ensures { IfOk result (λ answer. IsVerdict product p.now opts.now answer.status answer.output.items) }
 {
     match collect(alloc, p, opts) {
-        Ok(items) => Ok(Answer {
-            status: 0,
-            output: show(alloc, product, p, items.as_slice())?,
-        }),
-        Err(CollectFault::TooMany(items)) => Ok(Answer {
-            status: 5,
-            output: too_many(alloc, items, p.krate.as_slice())?,
-        }),
-        Err(CollectFault::TypeLength(path, length)) => Ok(Answer {
-            status: 6,
-            output: too_long(alloc, path.as_slice(), length)?,
-        }),
-        // There are no traits, so no impl is missing.
-        Err(CollectFault::NoImpl(_) | CollectFault::NoMemory) => Err(NoMemory),
+        Ok(items) => accept(alloc, product, p, items.as_slice()),
+        Err(fault) => refuse(alloc, p, fault),
     }
 }
 

@@ -9,6 +9,7 @@ pub mod laws;
 mod limits;
 mod listing;
 mod numbers;
+mod refusal;
 mod tool;
 mod type_texts;
 mod words;

@@ -1,21 +1,7 @@
-use Rattle.std.proofs.Common.{◌++◌, Err, refl, inl, inr, ◌∙◌, ap, subst, codes}
-use Rattle.std.specs.Prelude.{decimal}
-use Rattle.mm_tool.specs.Report.{line, Shows}
+use Rattle.mm_tool.specs.Report.{Tells, IsVerdict}
+use Rattle.mm_tool.proofs.Verdicts.{IfOk-then, told}
 use Rattle.mm_tool.proofs.answer.judge.Goals as goal
 
-pub returns-in-Ok : goal.returns-in-Ok
-returns-in-Ok c = inl (record {
-  status_is = refl;
-  items = c.in-Ok.items;
-  accepted = c.in-Ok.ensures.accepted;
-  shown = subst (λ items. Shows c.args.product c.args.p.now items c.in_ok-show-in-Ok.field-0.items) c.as_slice.ensures c.in_ok-show-in-Ok.ensures;
-})
-
-pub returns-in-Err-TypeLength : goal.returns-in-Err-TypeLength
-returns-in-Err-TypeLength c = inr (inr (record {
-  status_is = refl;
-  path = c.in-Err-TypeLength.path;
-  n = c.in-Err-TypeLength.length;
-  long = c.in-Err-TypeLength.ensures.too_long c.in-Err-TypeLength.path c.in-Err-TypeLength.length (ap Err c.in-Err-TypeLength.field-0-is);
-  output_is = c.in_ok-too_long-in-Err-TypeLength.ensures ∙ ap (λ path. line (codes "error: type length " ++ decimal c.in-Err-TypeLength.length ++ codes " in " ++ path)) c.as_slice-in-Err-TypeLength.ensures;
-}))
+pub returns-in-Err : goal.returns-in-Err
+returns-in-Err c = IfOk-then c.refuse.result (λ answer. Tells c.args.p.now c.in-Err.fault answer.status answer.output.items) (λ answer. IsVerdict c.args.product c.args.p.now c.args.opts.now answer.status answer.output.items) c.refuse.ensures
+    (λ answer. told c.args.p.now c.args.opts.now c.collect.result c.args.product c.in-Err.fault c.in-Err.is c.collect.ensures.too_many c.collect.ensures.too_long answer.status answer.output.items)

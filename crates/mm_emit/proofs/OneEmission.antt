@@ -58,11 +58,11 @@ module _ (p : Program) (items others : List Item) (own : HaveOwnSymbols p items)
   unit_one u v a b =
       let symbols = sorted_one (map symbol_of u.defs) (map symbol_of v.defs) (IsPermutation-map symbol_of u.defs v.defs (same_defs u v a b)) (keys_sorted u.defs a.sorted) (keys_sorted v.defs b.sorted) in
       let defs = told symbol_of u.defs v.defs (λ d e inside there key.
-          let x = def_from p items u a own d inside in
-          let y = def_from p others v b own_too e there in
-          let symbol : item_symbol p x.0 ≡ item_symbol p y.0 = sym (def_symbol p External x.0) ∙ ap symbol_of (sym x.2) ∙ key ∙ ap symbol_of y.2 ∙ def_symbol p External y.0 in
-          let same : x.0 ≡ y.0 = own x.0 y.0 x.1 (Contains-permutation others items y.0 (IsPermutation-sym items others moved) y.1) symbol in
-          x.2 ∙ ap (def_of p External) same ∙ sym y.2) symbols in
+      let x = def_from p items u a own d inside in
+      let y = def_from p others v b own_too e there in
+      let symbol : item_symbol p x.0 ≡ item_symbol p y.0 = sym (def_symbol p External x.0) ∙ ap symbol_of (sym x.2) ∙ key ∙ ap symbol_of y.2 ∙ def_symbol p External y.0 in
+      let same : x.0 ≡ y.0 = own x.0 y.0 x.1 (Contains-permutation others items y.0 (IsPermutation-sym items others moved) y.1) symbol in
+      x.2 ∙ ap (def_of p External) same ∙ sym y.2) symbols in
       λ i. record { name = (a.name ∙ sym b.name) i; defs = defs i }
 
   units_one : (us vs : List ObjUnit) → AreUnitsOf p (whole_crate p items ∷ []) us → AreUnitsOf p (whole_crate p others ∷ []) vs → us ≡ vs

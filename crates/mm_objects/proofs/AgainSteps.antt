@@ -1,32 +1,31 @@
 -- The lines of objects are read, and each front of lines that is read can be gone on with.
-use Rattle.std.proofs.Common.{◌≡◌, ◌≢◌, ℕ, suc, ◌<◌, ◌≤◌, ◌^◌, ◌-◌, ◌+◌, Bool, true, false, cond, eqb, List, [], ◌∷◌, ◌++◌, length, map, codes, All, Option, Some, None, refl, ap, sym, ◌∙◌, subst, arith, append_assoc, append-nil, length-append, flat_map}
+use Rattle.std.proofs.Common.{◌≡◌, ℕ, ◌<◌, ◌^◌, ◌+◌, Bool, true, false, eqb, List, [], ◌∷◌, ◌++◌, length, map, codes, All, Option, Some, None, refl, ap, sym, ◌∙◌, arith, append_assoc, append-nil, length-append, flat_map}
 use Rattle.std.specs.List.{enumerate_from}
-use Rattle.std.proofs.lemmas.Bool.{eqb-true, eqb-false, false_from_ne_true}
-use Rattle.std.proofs.lemmas.List.Elements.{All-nil, All-cons, All-head, All-tail}
+use Rattle.std.proofs.lemmas.Bool.{eqb-true, false_from_ne_true}
+use Rattle.std.proofs.lemmas.List.Elements.{All-head, All-tail}
 use Rattle.mm_objects.specs.declared.objects.Objects.{Objects}
 use Rattle.mm_objects.specs.declared.objects.ObjUnit.{ObjUnit}
 use Rattle.mm_objects.specs.declared.objects.ObjDef.{ObjDef}
 use Rattle.mm_objects.specs.declared.objects.ObjDef.TheVariants.{Code}
-use Rattle.mm_objects.specs.declared.objects.Linkage.{Linkage}
 use Rattle.mm_objects.specs.declared.objects.ObjBlock.{ObjBlock}
 use Rattle.mm_objects.specs.declared.objects.ObjInstr.{ObjInstr}
 use Rattle.mm_objects.specs.declared.objects.ObjEnd.{ObjEnd}
-use Rattle.mm_objects.specs.declared.objects.ObjEnd.TheVariants as ends
 use Rattle.mm_objects.specs.declared.progress.Header.{Header}
 use Rattle.mm_objects.specs.declared.progress.OpenUnit.{OpenUnit}
 use Rattle.mm_objects.specs.declared.progress.OpenCode.{OpenCode}
 use Rattle.mm_objects.specs.declared.progress.Progress.{Progress}
 use Rattle.mm_objects.specs.declared.progress.Progress.TheVariants as at
 use Rattle.mm_objects.specs.ObjectNames.{IsCodeSymbol, IsUnitName}
-use Rattle.mm_objects.specs.ObjectText.{Word, Line, first_line, main_line, last_line, instr_words, end_words, label_line, block_lines, fn_line, def_lines, unit_lines, lines_of}
-use Rattle.mm_objects.specs.ObjectForms.{IsInstr, IsEnd, IsBlock, IsCode, IsDef, IsUnit, AreObjects}
-use Rattle.mm_objects.specs.LineReading.{◌>>=◌, instr_in, end_in, label_in, header_in, named_in, symbol_in, unit_name_in}
-use Rattle.mm_objects.specs.TextReading.{closed_unit, objects_with, closed_code, with_def, with_block, settled, head_in, main_in, unit_in, behind_main_in, code_in, behind_def_in, block_in, instr_or_end, within_block_in, next_in, run_in}
-use Rattle.mm_objects.proofs.ReadTools.{Reads, some_same, bind_some, eqb-self}
-use Rattle.mm_objects.proofs.NameLaws.{symbol-reads, unit_name-reads}
+use Rattle.mm_objects.specs.ObjectText.{Line, first_line, main_line, last_line, instr_words, end_words, label_line, block_lines, def_lines, unit_lines, lines_of}
+use Rattle.mm_objects.specs.ObjectForms.{IsInstr, IsEnd, IsBlock, IsDef, IsUnit}
+use Rattle.mm_objects.specs.LineReading.{◌>>=◌, named_in}
+use Rattle.mm_objects.specs.TextReading.{closed_unit, objects_with, closed_code, with_def, with_block, settled, head_in, main_in, unit_in, behind_main_in, code_in, behind_def_in, block_in, within_block_in, next_in, run_in}
+use Rattle.mm_objects.proofs.ReadTools.{eqb-self}
+use Rattle.mm_objects.proofs.NameLaws.{symbol-reads}
+use Rattle.mm_objects.proofs.UnitNames.{unit_name-reads}
 use Rattle.mm_objects.proofs.LineReads.{instr-reads, end-reads, end-no_instr}
-use Rattle.mm_objects.proofs.HeaderReads.{IsHeader, header_line, header_words, header-again, named-again, label-again}
-use Rattle.mm_objects.proofs.SoundSteps.{IsFirst, IsOpenUnit, IsOpenCode, AreDone, IsProgress, so_far, flat_map-more, run-sound}
+use Rattle.mm_objects.proofs.HeaderReads.{IsHeader, header_line, header-again, named-again, label-again}
+use Rattle.mm_objects.proofs.SoundSteps.{AreDone}
 
 bind-assoc : {A B C : Type 0} (o : Option A) (f : A → Option B) (g : B → Option C) (both : A → Option C) → ((a : A) → both a ≡ (f a >>= g)) → (o >>= both) ≡ ((o >>= f) >>= g)
 bind-assoc None f g both same = refl

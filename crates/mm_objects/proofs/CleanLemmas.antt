@@ -1,13 +1,9 @@
 -- No blank and no line end stands in a word of the lines of objects, and no line is without words.
-use Rattle.std.proofs.Common.{◌≡◌, ◌≢◌, ℕ, ◌<◌, ◌≤◌, ◌^◌, ◌+◌, Bool, true, false, cond, not, ◌&&◌, ◌||◌, eqb, List, [], ◌∷◌, ◌++◌, length, map, codes, All, refl, ap, sym, ◌∙◌, subst, arith, flat_map}
+use Rattle.std.proofs.Common.{◌≡◌, ◌≢◌, ℕ, ◌<◌, ◌^◌, ◌+◌, true, false, List, [], ◌∷◌, ◌++◌, length, map, codes, All, refl, arith, flat_map}
 use Rattle.std.specs.List.{list_all, enumerate_from}
-use Rattle.std.specs.Char.{is_ascii_digit}
 use Rattle.std.specs.Fmt.{decimal}
-use Rattle.std.proofs.lemmas.Bool.{eqb-true, false_from_ne_true, both_ways}
-use Rattle.std.proofs.lemmas.List.Elements.{All-nil, All-cons, All-head, All-tail, All-append, All-map}
+use Rattle.std.proofs.lemmas.List.Elements.{All-nil, All-cons, All-head, All-tail, All-append}
 use Rattle.std.proofs.lemmas.List.Folds.{list_all-append}
-use Rattle.mm_lex.proofs.LexNumberLemmas.{decimal-digits}
-use Rattle.mm_lex.proofs.LexRunLemmas.{both}
 use Rattle.mm_collect.specs.declared.program.Op.{Op}
 use Rattle.mm_collect.specs.declared.program.Op.TheVariants.{Add, Sub, Mul, Div, Rem, Eq, Lt}
 use Rattle.mm_collect.specs.declared.program.Arm.{Arm}
@@ -31,11 +27,10 @@ use Rattle.mm_objects.specs.declared.objects.ObjEnd.{ObjEnd}
 use Rattle.mm_objects.specs.declared.objects.ObjEnd.TheVariants as ends
 use Rattle.mm_objects.specs.declared.objects.ObjCallee.{ObjCallee}
 use Rattle.mm_objects.specs.declared.objects.ObjCallee.TheVariants as callees
-use Rattle.mm_objects.specs.ObjectNames.{is_graphic, IsCodeSymbol, IsUnitName}
-use Rattle.mm_objects.specs.ObjectText.{Word, Line, base_text, place_text, truth_text, operand_text, op_text, rvalue_words, instr_words, arm_text, callee_text, end_words, label_line, block_lines, linkage_text, fn_line, def_lines, unit_lines, first_line, main_line, last_line, lines_of}
+use Rattle.mm_objects.specs.ObjectText.{Word, Line, base_text, place_text, operand_text, op_text, rvalue_words, instr_words, arm_text, callee_text, end_words, label_line, block_lines, linkage_text, fn_line, def_lines, unit_lines, first_line, main_line, last_line, lines_of}
 use Rattle.mm_objects.specs.ObjectForms.{IsBase, IsPlace, IsOperand, IsRvalue, IsInstr, IsArm, IsCallee, IsEnd, IsBlock, IsDef, IsUnit, AreObjects}
-use Rattle.mm_objects.proofs.NameLaws.{unit_name-graphic}
-use Rattle.mm_objects.proofs.SymbolBytes.{IsClean, joined, number-clean, symbol-clean}
+use Rattle.mm_objects.proofs.UnitNames.{unit_name-graphic}
+use Rattle.mm_objects.proofs.SymbolBytes.{is_graphic, IsClean, joined, number-clean, symbol-clean}
 
 abbrev pub AreClean : Line → Type 0
 AreClean ws = list_all (list_all is_graphic) ws ≡ true

@@ -1,6 +1,6 @@
 -- Which line is to blame where bytes are no object text.
-use Rattle.std.proofs.Common.{◌≡◌, ◌≢◌, ℕ, suc, ◌<◌, ◌≤◌, ◌+◌, Bool, true, false, cond, eqb, List, [], ◌∷◌, ◌++◌, length, map, take, All, Option, Some, None, Result, Ok, Err, IfOk, refl, ap, sym, ◌∙◌, subst, arith, append_assoc, append-nil, length-append, flat_map, inl, inr, ◌⊎◌}
-use Rattle.std.specs.List.{join_with_byte, slice_split, onto_first}
+use Rattle.std.proofs.Common.{◌≡◌, ◌≢◌, ℕ, ◌+◌, Bool, true, false, cond, eqb, List, [], ◌∷◌, ◌++◌, length, map, take, All, Option, Some, None, Result, Ok, Err, IfOk, refl, ap, sym, ◌∙◌, subst, arith, append_assoc, append-nil, length-append}
+use Rattle.std.specs.List.{join_with_byte, onto_first}
 use Rattle.std.proofs.Math.Seq.{take-append_seam}
 use Rattle.std.proofs.lemmas.Bool.{eqb-false, eqb-true, false_from_ne_true}
 use Rattle.std.proofs.lemmas.Grind.{flat_map-append}
@@ -10,12 +10,11 @@ use Rattle.mm_objects.specs.declared.fault.ObjFault.{ObjFault}
 use Rattle.mm_objects.specs.declared.fault.ObjFault.TheVariants as faults
 use Rattle.mm_objects.specs.declared.progress.Progress.{Progress}
 use Rattle.mm_objects.specs.declared.progress.Progress.TheVariants as at
-use Rattle.mm_objects.specs.ObjectText.{Word, Line, line_text, lines_of, written, objects_text}
-use Rattle.mm_objects.specs.ObjectForms.{AreObjects, IsObjectText, IsUnitText, CanBegin, IsWithinLine, AreFirstLines, IsBadAt}
+use Rattle.mm_objects.specs.ObjectText.{Word, line_text, lines_of, written, objects_text}
+use Rattle.mm_objects.specs.ObjectForms.{IsUnitText, CanBegin, IsWithinLine, AreFirstLines, IsBadAt}
 use Rattle.mm_objects.specs.Given.{GivesAt}
 use Rattle.mm_objects.specs.LineReading.{◌>>=◌}
 use Rattle.mm_objects.specs.TextReading.{next_in, run_in, words_in, at_line, then, follow, done_of, if_none, text_in}
-use Rattle.mm_objects.proofs.SoundSteps.{AreDone}
 use Rattle.mm_objects.proofs.AgainSteps.{run-append}
 use Rattle.mm_objects.proofs.GoingOn.{run-first_of, run-not_first}
 use Rattle.mm_objects.proofs.CleanLemmas.{lines-clean}

@@ -1,5 +1,5 @@
 -- Lemmas on following lines.
-use Rattle.std.proofs.Common.{◌≡◌, ℕ, suc, ◌<◌, ◌≤◌, ◌+◌, Bool, List, [], ◌∷◌, length, map, drop, get_or, Bor, Option, Some, None, Result, Ok, Err, add-one, drop-cons, refl, ap, sym, ◌∙◌, arith}
+use Rattle.std.proofs.Common.{◌≡◌, ℕ, ◌<◌, ◌≤◌, ◌+◌, Bool, List, length, drop, get_or, Bor, Result, Ok, Err, add-one, drop-cons, refl, ap, ◌∙◌}
 use Rattle.std.proofs.lemmas.List.{drop_all}
 use Rattle.mm_objects.specs.declared.fault.ObjFault.{ObjFault}
 use Rattle.mm_objects.specs.declared.fault.ObjFault.TheVariants as faults

@@ -1,5 +1,5 @@
 -- Each front of lines that is read can be gone on with, so that the lines are those of objects.
-use Rattle.std.proofs.Common.{◌≡◌, ℕ, zero, suc, ◌<◌, ◌≤◌, ◌^◌, ◌-◌, ◌+◌, Bool, true, false, cond, eqb, List, [], ◌∷◌, ◌++◌, length, map, codes, All, Some, refl, ap, sym, ◌∙◌, subst, arith, append-nil, length-append, flat_map}
+use Rattle.std.proofs.Common.{◌≡◌, ℕ, zero, suc, ◌-◌, ◌+◌, Bool, true, false, cond, eqb, List, [], ◌∷◌, ◌++◌, length, All, Some, refl, ap, sym, ◌∙◌, arith, flat_map}
 use Rattle.std.specs.List.{enumerate_from}
 use Rattle.std.proofs.lemmas.List.Elements.{All-nil, All-cons}
 use Rattle.mm_objects.specs.declared.objects.Objects.{Objects}
@@ -11,14 +11,14 @@ use Rattle.mm_objects.specs.declared.progress.OpenUnit.{OpenUnit}
 use Rattle.mm_objects.specs.declared.progress.OpenCode.{OpenCode}
 use Rattle.mm_objects.specs.declared.progress.Progress.{Progress}
 use Rattle.mm_objects.specs.declared.progress.Progress.TheVariants as at
-use Rattle.mm_objects.specs.ObjectNames.{IsCodeSymbol}
 use Rattle.mm_objects.specs.ObjectText.{Line, first_line, main_line, last_line, end_words, block_lines, unit_lines, lines_of}
-use Rattle.mm_objects.specs.ObjectForms.{IsBlock, IsDef, IsUnit, AreObjects}
-use Rattle.mm_objects.specs.TextReading.{closed_code, with_def, with_block, settled, next_in, run_in}
+use Rattle.mm_objects.specs.ObjectForms.{IsBlock, IsDef, IsUnit}
+use Rattle.mm_objects.specs.TextReading.{closed_code, with_def, with_block, settled, run_in}
 use Rattle.mm_objects.specs.LineReading.{◌>>=◌}
 use Rattle.mm_objects.proofs.ReadTools.{bind_some}
-use Rattle.mm_objects.proofs.NameLaws.{example_symbol, example_symbol-is, example_unit, example_unit-is}
-use Rattle.mm_objects.proofs.SoundSteps.{IsOpenUnit, IsOpenCode, AreDone, IsProgress, so_far, step-sound, run-sound}
+use Rattle.mm_objects.proofs.NameLaws.{example_symbol, example_symbol-is}
+use Rattle.mm_objects.proofs.UnitNames.{example_unit, example_unit-is}
+use Rattle.mm_objects.proofs.SoundSteps.{IsOpenCode, AreDone, IsProgress, step-sound, run-sound}
 use Rattle.mm_objects.proofs.AgainSteps.{run-append, run-next, run-blocks, run-last, head-step, main-step, run-main, run-again, end-step}
 
 -- lines with which all of the objects is read

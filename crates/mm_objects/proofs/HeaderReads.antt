@@ -1,5 +1,5 @@
 -- Laws of the readers of the first line of a function, of labels, and of lines with a name.
-use Rattle.std.proofs.Common.{◌≡◌, ℕ, ◌<◌, ◌≤◌, ◌^◌, ◌-◌, ◌+◌, Bool, true, false, cond, eqb, ltb, ◌&&◌, List, [], ◌∷◌, ◌++◌, length, codes, Option, Some, None, refl, ap, sym, ◌∙◌, subst, arith}
+use Rattle.std.proofs.Common.{◌≡◌, ℕ, ◌<◌, ◌≤◌, ◌^◌, ◌-◌, eqb, ltb, ◌&&◌, List, [], ◌∷◌, ◌++◌, codes, Some, None, refl, ap, sym, ◌∙◌, subst, arith}
 use Rattle.std.specs.Fmt.{decimal}
 use Rattle.std.proofs.lemmas.Bool.{ltb-true, lt-ltb, eqb-true}
 use Rattle.std.proofs.lemmas.Option.{cond_some}
@@ -9,8 +9,8 @@ use Rattle.mm_objects.specs.declared.objects.Linkage.{Linkage}
 use Rattle.mm_objects.specs.declared.progress.Header.{Header}
 use Rattle.mm_objects.specs.ObjectNames.{IsCodeSymbol}
 use Rattle.mm_objects.specs.ObjectText.{Word, Line, linkage_text, fn_line, label_line}
-use Rattle.mm_objects.specs.LineReading.{◌>>=◌, behind, symbol_in, linkage_in, first_of, only_of, both_of, counts_in, header_in, named_in, label_in}
-use Rattle.mm_objects.proofs.ReadTools.{Reads, some_same, bind_some, keyed_only, key_at, behind-sound, behind-again, number-reads, eqb-self}
+use Rattle.mm_objects.specs.LineReading.{behind, symbol_in, linkage_in, first_of, only_of, both_of, counts_in, header_in, named_in, label_in}
+use Rattle.mm_objects.proofs.ReadTools.{some_same, bind_some, keyed_only, key_at, behind-sound, number-reads, eqb-self}
 use Rattle.mm_objects.proofs.NameLaws.{symbol-reads}
 use Rattle.mm_objects.proofs.WordReads.{linkage-reads}
 use Rattle.mm_objects.proofs.LineReads.{first-is, only-is, both-is}

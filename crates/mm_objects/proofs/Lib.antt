@@ -2,13 +2,14 @@ pub mod PieceLemmas
 pub mod FollowLemmas
 pub mod ReadTools
 pub mod NameLaws
+pub mod SymbolBytes
+pub mod UnitNames
 pub mod WordReads
 pub mod LineReads
 pub mod HeaderReads
 pub mod SoundSteps
 pub mod AgainSteps
 pub mod GoingOn
-pub mod SymbolBytes
 pub mod CleanLemmas
 pub mod SplitLemmas
 pub mod TextLaws

@@ -1,17 +1,14 @@
 -- Laws of the readers of lines.
-use Rattle.std.proofs.Common.{◌≡◌, ℕ, ◌<◌, ◌≤◌, ◌^◌, ◌-◌, ◌+◌, Bool, true, false, cond, eqb, ltb, ◌&&◌, List, [], ◌∷◌, ◌++◌, length, map, codes, All, Option, Some, None, refl, ap, sym, ◌∙◌, subst, arith, append_assoc, inl, inr, ◌⊎◌}
+use Rattle.std.proofs.Common.{◌≡◌, ℕ, ◌<◌, ◌^◌, ◌-◌, true, false, eqb, List, [], ◌∷◌, ◌++◌, map, codes, All, Option, Some, None, refl, ap, sym, ◌∙◌, subst, arith, append_assoc, inl, inr}
 use Rattle.std.specs.List.{slice_split, join_with_byte, list_all}
 use Rattle.std.specs.Char.{is_ascii_digit}
-use Rattle.std.specs.Str.{bytes_eq}
 use Rattle.std.specs.Fmt.{decimal}
-use Rattle.std.proofs.lemmas.Bool.{ltb-true, lt-ltb, eqb-true, false_from_ne_true, both_ways}
+use Rattle.std.proofs.lemmas.Bool.{eqb-true, false_from_ne_true, both_ways}
 use Rattle.std.proofs.lemmas.List.Elements.{All-nil, All-cons, All-head, All-tail}
 use Rattle.std.proofs.lemmas.List.Splits.{slice_split_at, slice_split_none, join_with_byte-slice_split}
-use Rattle.std.proofs.lemmas.Option.{cond_some}
 use Rattle.mm_collect.specs.declared.program.Op.{Op}
 use Rattle.mm_collect.specs.declared.program.Op.TheVariants.{Add, Sub, Mul, Div, Rem, Eq, Lt}
 use Rattle.mm_collect.specs.declared.program.Arm.{Arm}
-use Rattle.mm_objects.specs.declared.objects.Linkage.{Linkage}
 use Rattle.mm_objects.specs.declared.objects.ObjInstr.{ObjInstr}
 use Rattle.mm_objects.specs.declared.objects.ObjInstr.TheVariants as instrs
 use Rattle.mm_objects.specs.declared.objects.ObjRvalue.{ObjRvalue}
@@ -19,15 +16,14 @@ use Rattle.mm_objects.specs.declared.objects.ObjRvalue.TheVariants as rvalues
 use Rattle.mm_objects.specs.declared.objects.ObjOperand.{ObjOperand}
 use Rattle.mm_objects.specs.declared.objects.ObjEnd.{ObjEnd}
 use Rattle.mm_objects.specs.declared.objects.ObjEnd.TheVariants as ends
-use Rattle.mm_objects.specs.declared.objects.ObjCallee.{ObjCallee}
 use Rattle.mm_lex.specs.LexReading.{number_in}
 use Rattle.mm_lex.proofs.LexNumberLemmas.{decimal-digits}
 use Rattle.mm_lex.proofs.LexRunLemmas.{both}
-use Rattle.mm_objects.specs.ObjectText.{Word, Line, place_text, operand_text, op_text, rvalue_words, instr_words, arm_text, callee_text, end_words}
-use Rattle.mm_objects.specs.ObjectForms.{IsBelow, IsPlace, IsOperand, IsRvalue, IsInstr, IsArm, IsCallee, IsEnd}
-use Rattle.mm_objects.specs.LineReading.{◌>>=◌, below_in, place_in, operand_in, op_in, callee_in, first_of, only_of, both_of, if_done, before, last_two, all_in, arm_in, one_operand_in, binary_in, rvalue_in, set_in, instr_in, goto_in, listed_in, switch_in, call_in, end_in}
-use Rattle.mm_objects.proofs.ReadTools.{Reads, some_same, bind_some, word_is, keyed, keyed_only, same_word, number-reads, below-reads}
-use Rattle.mm_objects.proofs.WordReads.{place-reads, operand-reads, op-reads, op-again, callee-reads}
+use Rattle.mm_objects.specs.ObjectText.{Word, Line, operand_text, op_text, rvalue_words, instr_words, arm_text, end_words}
+use Rattle.mm_objects.specs.ObjectForms.{IsBelow, IsOperand, IsRvalue, IsInstr, IsArm, IsEnd}
+use Rattle.mm_objects.specs.LineReading.{below_in, place_in, operand_in, op_in, callee_in, first_of, only_of, both_of, if_done, before, last_two, all_in, arm_in, one_operand_in, binary_in, rvalue_in, set_in, instr_in, goto_in, listed_in, switch_in, call_in, end_in}
+use Rattle.mm_objects.proofs.ReadTools.{Reads, some_same, bind_some, keyed, keyed_only, same_word, number-reads, below-reads}
+use Rattle.mm_objects.proofs.WordReads.{place-reads, operand-reads, op-reads, callee-reads}
 use Rattle.mm_objects.proofs.PieceLemmas.{last_two-at}
 
 -- ---- parts of lists of words

@@ -1,9 +1,7 @@
 -- Laws of the names of objects.
-use Rattle.std.proofs.Common.{◌≡◌, ℕ, suc, Bool, true, false, ltb, List, [], ◌∷◌, length, codes, Option, None, Some, All, MatchOption, refl, sym, ap, ◌∙◌, subst}
-use Rattle.std.specs.List.{list_all}
-use Rattle.std.proofs.lemmas.List.Elements.{All-nil, All-cons}
+use Rattle.std.proofs.Common.{◌≡◌, ℕ, suc, Bool, true, false, List, [], length, Option, None, Some, All, MatchOption, refl, sym, ap, ◌∙◌, subst}
+use Rattle.std.proofs.lemmas.List.Elements.{All-nil}
 use Rattle.std.proofs.lemmas.Option.{cond_some}
-use Rattle.mm_lex.proofs.LexRunLemmas.{both}
 use Rattle.mm_symbols.specs.declared.form.SymItem.TheVariants as items
 use Rattle.mm_symbols.specs.declared.form.SymbolForm.{SymbolForm}
 use Rattle.mm_symbols.specs.SymbolText.{symbol_text}
@@ -13,8 +11,8 @@ use Rattle.mm_symbols.specs.SymTree.{sym_node, sym_children, sym_head-node, sym_
 use Rattle.mm_symbols.specs.SymbolForms.{IsHead, IsWithin, IsSymbolOf, IsSymbol}
 use Rattle.mm_symbols.specs.Reading as symbols
 use Rattle.mm_symbols.proofs.SymbolReads.{symbol_in-sound, symbol_in-complete}
-use Rattle.mm_objects.specs.ObjectNames.{is_graphic, is_code, IsCodeSymbol, IsUnitName, is_unit_name}
-use Rattle.mm_objects.specs.LineReading.{is_form_of_code, is_code_symbol, symbol_in, unit_name_in}
+use Rattle.mm_objects.specs.ObjectNames.{is_code, IsCodeSymbol}
+use Rattle.mm_objects.specs.LineReading.{is_form_of_code, is_code_symbol, symbol_in}
 use Rattle.mm_objects.proofs.ReadTools.{Reads}
 
 -- ---- symbols of code
@@ -52,13 +50,6 @@ symbol-reads = record {
   again = λ s is. rw (code_symbol-complete s is) refl;
 }
 
-pub unit_name-reads : Reads IsUnitName (λ s. s) unit_name_in
-unfolding unit_name_in
-unit_name-reads = record {
-  sound = λ w s h. let p = cond_some (is_unit_name w) w s h in (subst IsUnitName p.1 p.0, sym p.1);
-  again = λ s is. rw is refl;
-}
-
 -- ---- names that there are
 
 -- the glue of numbers
@@ -80,13 +71,3 @@ example_symbol = symbol_text example_form
 
 pub example_symbol-is : IsCodeSymbol example_symbol
 example_symbol-is = record { form = example_form; symbol = record { formed = record { item = number_type-is 4095; krate = tt }; is = refl }; code = refl }
-
-abbrev pub example_unit : List ℕ
-example_unit = codes "a/a.stable"
-
-pub example_unit-is : IsUnitName example_unit
-example_unit-is = refl
-
--- no blank and no line end stands in a name
-pub unit_name-graphic : (s : List ℕ) → IsUnitName s → list_all is_graphic s ≡ true
-unit_name-graphic s is = (both (ltb 0 (length s)) (list_all is_graphic s) is).1

@@ -1,5 +1,5 @@
 -- Lemmas on lists of words.
-use Rattle.std.proofs.Common.{◌≡◌, ℕ, zero, suc, ◌<◌, ◌≤◌, ◌+◌, List, [], ◌∷◌, ◌++◌, length, map, take, drop, get_or, Bor, Option, Some, None, Result, Ok, Err, add-one, drop-cons, append-nil, refl, ap, sym, ◌∙◌, subst, arith, append_assoc}
+use Rattle.std.proofs.Common.{◌≡◌, ℕ, suc, ◌<◌, ◌≤◌, ◌+◌, List, [], ◌∷◌, ◌++◌, length, map, drop, get_or, Bor, Option, Some, None, Result, Err, add-one, drop-cons, append-nil, refl, ap, sym, ◌∙◌, arith, append_assoc}
 use Rattle.std.proofs.lemmas.List.{drop_all}
 use Rattle.mm_objects.specs.declared.line_error.LineError.{LineError}
 use Rattle.mm_objects.specs.declared.line_error.LineError.TheVariants.{Unfit, NoMemory}

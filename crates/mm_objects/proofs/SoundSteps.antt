@@ -1,5 +1,5 @@
 -- What is read line by line is written in these lines.
-use Rattle.std.proofs.Common.{◌≡◌, ◌≢◌, ℕ, ◌<◌, ◌≤◌, ◌^◌, ◌-◌, ◌+◌, Bool, true, false, cond, eqb, ltb, ◌&&◌, List, [], ◌∷◌, ◌++◌, length, map, codes, All, Option, Some, None, refl, ap, sym, ◌∙◌, subst, arith, append_assoc, append-nil, length-append, inl, inr, ◌⊎◌, flat_map}
+use Rattle.std.proofs.Common.{◌≡◌, ◌≢◌, ℕ, ◌<◌, ◌≤◌, ◌+◌, Bool, true, false, cond, eqb, ◌&&◌, List, [], ◌∷◌, ◌++◌, length, map, codes, All, Option, Some, None, refl, ap, sym, ◌∙◌, subst, arith, append_assoc, append-nil, length-append, inl, inr, flat_map}
 use Rattle.std.specs.List.{enumerate_from}
 use Rattle.std.specs.Str.{bytes_eq}
 use Rattle.std.proofs.lemmas.Bool.{eqb-true, eqb-false}
@@ -11,19 +11,19 @@ use Rattle.mm_objects.specs.declared.objects.ObjUnit.{ObjUnit}
 use Rattle.mm_objects.specs.declared.objects.ObjDef.{ObjDef}
 use Rattle.mm_objects.specs.declared.objects.ObjBlock.{ObjBlock}
 use Rattle.mm_objects.specs.declared.objects.ObjInstr.{ObjInstr}
-use Rattle.mm_objects.specs.declared.progress.Header.{Header}
 use Rattle.mm_objects.specs.declared.progress.OpenUnit.{OpenUnit}
 use Rattle.mm_objects.specs.declared.progress.OpenCode.{OpenCode}
 use Rattle.mm_objects.specs.declared.progress.Progress.{Progress}
 use Rattle.mm_objects.specs.declared.progress.Progress.TheVariants as at
 use Rattle.mm_objects.specs.ObjectNames.{IsCodeSymbol, IsUnitName}
-use Rattle.mm_objects.specs.ObjectText.{Word, Line, first_line, main_line, last_line, instr_words, end_words, label_line, block_lines, fn_line, def_lines, unit_lines, lines_of}
-use Rattle.mm_objects.specs.ObjectForms.{IsInstr, IsEnd, IsBlock, IsCode, IsDef, IsUnit, AreObjects}
-use Rattle.mm_objects.specs.LineReading.{◌>>=◌, first_of, only_of, if_done, named_in, symbol_in, unit_name_in, header_in, label_in, instr_in, end_in}
+use Rattle.mm_objects.specs.ObjectText.{Word, Line, first_line, main_line, last_line, instr_words, label_line, block_lines, fn_line, def_lines, unit_lines, lines_of}
+use Rattle.mm_objects.specs.ObjectForms.{IsInstr, IsBlock, IsDef, IsUnit, AreObjects}
+use Rattle.mm_objects.specs.LineReading.{only_of, if_done, named_in, symbol_in, unit_name_in, header_in, label_in, instr_in, end_in}
 use Rattle.mm_objects.specs.TextReading.{closed_unit, objects_with, closed_code, with_def, with_block, settled, head_in, main_in, unit_in, behind_main_in, code_in, behind_def_in, block_in, instr_or_end, within_block_in, next_in, run_in}
-use Rattle.mm_objects.proofs.ReadTools.{Reads, some_same, bind_some, word_is, keyed, keyed_only, chosen}
-use Rattle.mm_objects.proofs.NameLaws.{symbol-reads, unit_name-reads}
-use Rattle.mm_objects.proofs.LineReads.{first-is, only-is, done-is, instr-reads, end-reads}
+use Rattle.mm_objects.proofs.ReadTools.{some_same, bind_some, word_is, keyed, keyed_only, chosen}
+use Rattle.mm_objects.proofs.NameLaws.{symbol-reads}
+use Rattle.mm_objects.proofs.UnitNames.{unit_name-reads}
+use Rattle.mm_objects.proofs.LineReads.{only-is, done-is, instr-reads, end-reads}
 use Rattle.mm_objects.proofs.HeaderReads.{IsHeader, header_line, header-sound, named-sound, label-sound}
 
 -- without several units there is none before this one

@@ -1,14 +1,13 @@
 -- Words and lines are cut where they were joined.
-use Rattle.std.proofs.Common.{◌≡◌, ◌≢◌, ℕ, ◌<◌, ◌≤◌, ◌+◌, Bool, true, false, cond, not, ◌||◌, eqb, List, [], ◌∷◌, ◌++◌, length, map, All, refl, ap, sym, ◌∙◌, subst, arith, append_assoc, append-nil, flat_map}
+use Rattle.std.proofs.Common.{◌≡◌, ℕ, Bool, true, false, not, ◌||◌, eqb, List, [], ◌∷◌, ◌++◌, map, All, refl, ap, sym, ◌∙◌, append_assoc, append-nil, flat_map}
 use Rattle.std.specs.List.{list_all, slice_split, join_with_byte}
 use Rattle.std.proofs.lemmas.List.Elements.{All-nil, All-cons, All-head, All-tail, All-append}
 use Rattle.std.proofs.lemmas.List.Splits.{slice_split_at, slice_split_none, join_with_byte-slice_split}
 use Rattle.mm_lex.proofs.LexRunLemmas.{both}
 use Rattle.mm_objects.specs.declared.objects.Objects.{Objects}
-use Rattle.mm_objects.specs.ObjectNames.{is_graphic}
 use Rattle.mm_objects.specs.ObjectText.{Word, Line, line_text, written, lines_of, objects_text}
 use Rattle.mm_objects.specs.ObjectForms.{AreObjects}
-use Rattle.mm_objects.proofs.SymbolBytes.{IsClean}
+use Rattle.mm_objects.proofs.SymbolBytes.{is_graphic, IsClean}
 use Rattle.mm_objects.proofs.CleanLemmas.{AreClean, IsCleanLine, lines-clean}
 
 -- the byte does not stand in it

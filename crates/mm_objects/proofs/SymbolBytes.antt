@@ -1,5 +1,5 @@
 -- No blank and no line end stands in a symbol.
-use Rattle.std.proofs.Common.{◌≡◌, ◌≢◌, ℕ, zero, suc, ◌<◌, ◌≤◌, ◌^◌, Bool, true, false, eqb, List, [], ◌∷◌, ◌++◌, length, map, flat_map, codes, decimal, Option, None, Some, All, lit<, lit≤, refl, sym, ap, ◌∙◌, subst, arith, inl, inr, ◌⊎◌}
+use Rattle.std.proofs.Common.{◌≡◌, ℕ, zero, suc, ◌<◌, ◌≤◌, ◌^◌, Bool, true, false, not, ◌||◌, ◌==◌, eqb, List, [], ◌∷◌, ◌++◌, length, map, flat_map, codes, decimal, Option, None, Some, All, lit<, lit≤, refl, sym, subst, arith, inl, inr, ◌⊎◌}
 use Rattle.std.specs.List.{list_all, concat}
 use Rattle.std.specs.Char.{is_ascii_digit}
 use Rattle.std.proofs.lemmas.Bool.{eqb-true, false_from_ne_true, both_ways}
@@ -20,7 +20,11 @@ use Rattle.mm_symbols.specs.SymTree.{sym_head, sym_children}
 use Rattle.mm_symbols.specs.SymbolText.{seg_text, path_text, args_text, signature_text, layer_text, type_text, type_args_text, method_text, item_text, krate_text, symbol_text}
 use Rattle.mm_symbols.specs.SymbolForms.{IsPath, IsHead, IsWithin, IsDrop, IsMethod, IsItem, IsKrate, IsSymbolOf}
 use Rattle.mm_symbols.proofs.TextLemmas.{type_text-parts}
-use Rattle.mm_objects.specs.ObjectNames.{is_graphic, IsCodeSymbol}
+use Rattle.mm_objects.specs.ObjectNames.{IsCodeSymbol}
+
+-- it is no blank and no line end
+abbrev pub is_graphic : ℕ → Bool
+is_graphic c = not ((c == 32) || (c == 10))
 
 -- no blank and no line end stands in it
 abbrev pub IsClean : List ℕ → Type 0

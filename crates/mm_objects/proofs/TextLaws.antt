@@ -1,23 +1,18 @@
 -- What is read is object text, object text is read, and the number of the line that does not fit is that of the first at fault.
-use Rattle.std.proofs.Common.{◌≡◌, ◌≢◌, ℕ, suc, ◌<◌, ◌≤◌, ◌+◌, Bool, true, false, cond, eqb, List, [], ◌∷◌, ◌++◌, length, map, take, All, Option, Some, None, Result, Ok, Err, refl, ap, sym, ◌∙◌, subst, arith, append_assoc, append-nil, length-append, flat_map}
+use Rattle.std.proofs.Common.{◌≡◌, ℕ, ◌+◌, Bool, true, List, [], ◌∷◌, ◌++◌, length, map, Option, Some, None, Result, Ok, Err, refl, ap, sym, ◌∙◌, arith, append-nil}
 use Rattle.std.specs.List.{join_with_byte}
-use Rattle.std.proofs.Math.Seq.{take-append_seam}
-use Rattle.std.proofs.lemmas.Bool.{eqb-false, eqb-true, false_from_ne_true}
-use Rattle.std.proofs.lemmas.List.{append_cancel_left}
-use Rattle.std.proofs.lemmas.List.Elements.{All-nil, All-cons, All-head, All-tail}
 use Rattle.mm_objects.specs.declared.objects.Objects.{Objects}
 use Rattle.mm_objects.specs.declared.progress.Progress.{Progress}
 use Rattle.mm_objects.specs.declared.progress.Progress.TheVariants as at
-use Rattle.mm_objects.specs.ObjectText.{Word, Line, lines_of, written, objects_text}
-use Rattle.mm_objects.specs.ObjectForms.{AreObjects, IsObjectText, IsUnitText, CanBegin, IsWithinLine, AreFirstLines, IsBadAt}
+use Rattle.mm_objects.specs.ObjectText.{Word, lines_of, written, objects_text}
+use Rattle.mm_objects.specs.ObjectForms.{AreObjects}
 use Rattle.mm_objects.specs.LineReading.{◌>>=◌}
 use Rattle.mm_objects.specs.TextReading.{next_in, run_in, words_in, at_line, then, follow, done_of, if_none, text_in}
 use Rattle.mm_objects.proofs.ReadTools.{some_same, bind_some}
-use Rattle.mm_objects.proofs.SoundSteps.{AreDone, IsProgress, so_far, run-sound}
-use Rattle.mm_objects.proofs.AgainSteps.{run-append, run-again}
-use Rattle.mm_objects.proofs.GoingOn.{AreFirstOf, run-first_of, run-not_first}
+use Rattle.mm_objects.proofs.SoundSteps.{AreDone, run-sound}
+use Rattle.mm_objects.proofs.AgainSteps.{run-again}
 use Rattle.mm_objects.proofs.CleanLemmas.{lines-clean}
-use Rattle.mm_objects.proofs.SplitLemmas.{HasNo, cut_at, ended, cut-ended, cut-is, cut-text, cut-lines, written-cut}
+use Rattle.mm_objects.proofs.SplitLemmas.{cut_at, ended, cut-is, cut-text, cut-lines, written-cut}
 
 -- ---- following lines
 

@@ -1,10 +1,6 @@
 -- Laws of the readers of words.
-use Rattle.std.proofs.Common.{◌≡◌, ℕ, ◌<◌, ◌≤◌, ◌^◌, ◌-◌, Bool, true, false, cond, eqb, List, [], ◌∷◌, ◌++◌, codes, Option, Some, None, refl, ap, sym, ◌∙◌, subst, arith, append_assoc, inl, inr}
-use Rattle.std.specs.List.{slice_split, join_with_byte, All}
-use Rattle.std.proofs.lemmas.Option.{cond_some}
-use Rattle.std.specs.Str.{bytes_eq}
+use Rattle.std.proofs.Common.{◌≡◌, ℕ, ◌<◌, ◌^◌, ◌-◌, true, false, ◌++◌, codes, Option, Some, None, refl, ap, sym, ◌∙◌, subst, arith, inl, inr}
 use Rattle.std.specs.Fmt.{decimal}
-use Rattle.std.proofs.lemmas.List.Splits.{slice_split_at, slice_split_none, join_with_byte-slice_split}
 use Rattle.mm_collect.specs.declared.program.Op.{Op}
 use Rattle.mm_collect.specs.declared.program.Op.TheVariants.{Add, Sub, Mul, Div, Rem, Eq, Lt}
 use Rattle.mm_objects.specs.declared.objects.Linkage.{Linkage}
@@ -17,12 +13,11 @@ use Rattle.mm_objects.specs.declared.objects.ObjOperand.TheVariants as operands
 use Rattle.mm_objects.specs.declared.objects.ObjCallee.{ObjCallee}
 use Rattle.mm_objects.specs.declared.objects.ObjCallee.TheVariants as callees
 use Rattle.mm_lex.specs.LexReading.{number_in}
-use Rattle.mm_objects.specs.ObjectNames.{IsCodeSymbol}
-use Rattle.mm_objects.specs.ObjectText.{Word, base_text, place_text, truth_text, operand_text, op_text, linkage_text, callee_text}
-use Rattle.mm_objects.specs.ObjectForms.{IsBelow, IsBase, IsPlace, IsOperand, IsCallee}
-use Rattle.mm_objects.specs.LineReading.{◌>>=◌, behind, below_in, place_in, copied_in, moved_in, truth_in, literal_in, operand_in, op_in, linkage_in, symbol_in, unit_name_in, callee_in}
+use Rattle.mm_objects.specs.ObjectText.{Word, base_text, place_text, operand_text, op_text, linkage_text, callee_text}
+use Rattle.mm_objects.specs.ObjectForms.{IsBase, IsPlace, IsOperand, IsCallee}
+use Rattle.mm_objects.specs.LineReading.{◌>>=◌, behind, below_in, place_in, copied_in, moved_in, truth_in, literal_in, operand_in, op_in, linkage_in, symbol_in, callee_in}
 use Rattle.mm_objects.proofs.NameLaws.{symbol-reads}
-use Rattle.mm_objects.proofs.ReadTools.{Reads, some_same, bind_some, bind_at, or_some, chosen, word_is, keyed, keyed_only, key_at, behind-sound, behind-again, number-reads, below-reads, BeginsWithDigit, decimal-begins, no_word, no_front}
+use Rattle.mm_objects.proofs.ReadTools.{Reads, some_same, bind_some, or_some, keyed, keyed_only, behind-sound, number-reads, below-reads, BeginsWithDigit, decimal-begins, no_word, no_front}
 
 place-sound : (locals : ℕ) (w : Word) (place : ObjPlace) → place_in locals w ≡ Some place → IsPlace locals place × (place_text place ≡ w)
 unfolding place_in

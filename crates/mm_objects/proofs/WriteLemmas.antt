@@ -1,18 +1,12 @@
 -- The lines of objects as they are written piece by piece.
-use Rattle.std.proofs.Common.{◌≡◌, ℕ, List, [], ◌∷◌, ◌++◌, length, map, codes, decimal, refl, ap, sym, ◌∙◌, append_assoc, append-nil, flat_map, ◌<◌, ◌+◌, take, get_or, length-take, arith}
+use Rattle.std.proofs.Common.{◌≡◌, ℕ, List, [], ◌∷◌, ◌++◌, length, map, refl, ap, sym, ◌∙◌, append_assoc, append-nil, flat_map, ◌<◌, ◌+◌, take, get_or, length-take, arith}
 use Rattle.std.specs.List.{join_with_byte, enumerate_from}
 use Rattle.std.proofs.lemmas.Grind.{flat_map-append}
 use Rattle.std.proofs.lemmas.List.{take_more}
-use Rattle.mm_collect.specs.declared.program.Arm.{Arm}
-use Rattle.mm_objects.specs.declared.objects.Objects.{Objects}
 use Rattle.mm_objects.specs.declared.objects.ObjBlock.{ObjBlock}
-use Rattle.mm_objects.specs.declared.objects.Linkage.{Linkage}
-use Rattle.mm_objects.specs.declared.objects.ObjPlace.{ObjPlace}
-use Rattle.mm_objects.specs.declared.objects.ObjOperand.{ObjOperand}
-use Rattle.mm_objects.specs.declared.objects.ObjCallee.{ObjCallee}
 use Rattle.mm_objects.specs.declared.objects.ObjEnd.{ObjEnd}
 use Rattle.mm_objects.specs.declared.objects.ObjInstr.{ObjInstr}
-use Rattle.mm_objects.specs.ObjectText.{Word, Line, place_text, operand_text, arm_text, callee_text, linkage_text, instr_words, end_words, block_lines, def_lines, unit_lines, lines_of, line_text, written}
+use Rattle.mm_objects.specs.ObjectText.{Word, Line, instr_words, end_words, block_lines, line_text, written}
 use Rattle.mm_objects.proofs.SoundSteps.{enumerate-more, flat_map-more}
 use Rattle.mm_objects.specs.Written.{spaced, pieces}
 

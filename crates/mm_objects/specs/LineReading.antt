@@ -1,5 +1,5 @@
 -- What each reader makes of words: the thing that they spell, where they spell one.
-use Rattle.std.specs.Prelude.{ℕ, ◌-◌, ◌^◌, ◌==◌, ◌&&◌, ltb, Bool, true, false, cond, List, [], ◌∷◌, length, take, drop, codes, Option, Some, None}
+use Rattle.std.specs.Prelude.{ℕ, ◌-◌, ◌^◌, ◌==◌, ◌&&◌, ◌||◌, ltb, Bool, true, false, cond, List, [], ◌∷◌, length, take, drop, codes, Option, Some, None}
 use Rattle.std.specs.List.{slice_split}
 use Rattle.std.specs.Option.{option_or}
 use Rattle.std.specs.Str.{bytes_eq}
@@ -24,7 +24,8 @@ use Rattle.mm_objects.specs.declared.objects.ObjCallee.TheVariants as callees
 use Rattle.mm_objects.specs.declared.progress.Header.{Header}
 use Rattle.mm_symbols.specs.declared.form.SymbolForm.{SymbolForm}
 use Rattle.mm_symbols.specs.Reading as symbols
-use Rattle.mm_objects.specs.ObjectNames.{is_code, is_unit_name}
+use Rattle.mm_objects.specs.ObjectNames.{is_code}
+use Rattle.mm_lex.specs.LexNames.{is_name}
 use Rattle.mm_objects.specs.ObjectText.{Word, Line}
 
 infixl 10 ◌>>=◌
@@ -96,6 +97,38 @@ is_code_symbol word = is_form_of_code (symbols.symbol_in 4096 word)
 unfoldable pub symbol_in : Word → Option (List ℕ)
 symbol_in word = cond (is_code_symbol word) (Some word) None
 
+-- both words, where there are two
+abbrev pub both_of : Line → Option (Word × Word)
+both_of [] = None
+both_of (word ∷ []) = None
+both_of (word ∷ next ∷ []) = Some (word, next)
+both_of (word ∷ next ∷ third ∷ words) = None
+
+abbrev pub is_empty : Word → Bool
+is_empty [] = true
+is_empty (b ∷ bs) = false
+
+abbrev pub is_stability : Word → Bool
+is_stability word = bytes_eq word (codes "stable") || bytes_eq word (codes "volatile")
+
+-- the parts of a path that was cut at each colon: names, and between each two of them a part without bytes
+unfoldable pub is_path_cut : List Word → Bool
+is_path_cut [] = false
+is_path_cut (name ∷ []) = is_name name
+is_path_cut (name ∷ gap ∷ []) = false
+is_path_cut (name ∷ gap ∷ next ∷ parts) = is_name name && is_empty gap && is_path_cut (next ∷ parts)
+
+abbrev pub names_module : Option (Word × Word) → Bool
+names_module None = false
+names_module (Some parts) = is_stability parts.1 && is_path_cut (slice_split (λ b. b == 58) parts.0)
+
+abbrev pub names_unit : Option (Word × Word) → Bool
+names_unit None = false
+names_unit (Some parts) = is_name parts.0 && names_module (both_of (slice_split (λ b. b == 46) parts.1))
+
+unfoldable pub is_unit_name : Word → Bool
+is_unit_name word = names_unit (both_of (slice_split (λ b. b == 47) word))
+
 unfoldable pub unit_name_in : Word → Option (List ℕ)
 unit_name_in word = cond (is_unit_name word) (Some word) None
 
@@ -117,13 +150,6 @@ abbrev pub only_of : Line → Option Word
 only_of [] = None
 only_of (word ∷ []) = Some word
 only_of (word ∷ next ∷ words) = None
-
--- both words, where there are two
-abbrev pub both_of : Line → Option (Word × Word)
-both_of [] = None
-both_of (word ∷ []) = None
-both_of (word ∷ next ∷ []) = Some (word, next)
-both_of (word ∷ next ∷ third ∷ words) = None
 
 -- a thing, where there is no word
 abbrev pub if_done : {A : Type 0} → A → Line → Option A

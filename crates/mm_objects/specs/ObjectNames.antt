@@ -1,10 +1,11 @@
 -- The names that objects have: symbols of functions, and names of units.
-use Rattle.std.specs.Prelude.{◌≡◌, ℕ, ◌==◌, ◌&&◌, ◌||◌, not, Bool, true, false, List, ltb, length}
-use Rattle.std.specs.List.{list_all}
+use Rattle.std.specs.Prelude.{◌≡◌, ℕ, Bool, true, false, List, ◌++◌, codes}
+use Rattle.std.specs.List.{join_by}
+use Rattle.mm_lex.specs.LexTokens.{IsName}
 use Rattle.mm_symbols.specs.declared.form.SymItem.{SymItem}
 use Rattle.mm_symbols.specs.declared.form.SymItem.TheVariants as items
 use Rattle.mm_symbols.specs.declared.form.SymbolForm.{SymbolForm}
-use Rattle.mm_symbols.specs.SymbolForms.{IsSymbolOf}
+use Rattle.mm_symbols.specs.SymbolForms.{IsPath, IsSymbolOf}
 
 -- every item but a static is code
 abbrev pub is_code : SymItem → Bool
@@ -21,12 +22,16 @@ pub record IsCodeSymbol (bytes : List ℕ) : Type 0 where
   pub symbol : IsSymbolOf form bytes
   pub code : is_code form.item ≡ true
 
-abbrev pub is_graphic : ℕ → Bool
-is_graphic c = not ((c == 32) || (c == 10))
+abbrev pub stability_text : Bool → List ℕ
+stability_text true = codes "stable"
+stability_text false = codes "volatile"
 
-abbrev pub is_unit_name : List ℕ → Bool
-is_unit_name bytes = ltb 0 (length bytes) && list_all is_graphic bytes
-
--- the bytes are the name of a unit
-abbrev pub IsUnitName : List ℕ → Type 0
-IsUnitName bytes = is_unit_name bytes ≡ true
+-- The bytes are the name of a unit: the compiling crate, and the path of a module with the word stable or volatile, as in
+-- app/app::inner.stable.
+pub record IsUnitName (bytes : List ℕ) : Type 0 where
+  pub krate : List ℕ
+  pub names : List (List ℕ)
+  pub stable : Bool
+  pub krate_is : IsName krate
+  pub path_is : IsPath names
+  pub is : bytes ≡ krate ++ codes "/" ++ join_by (λ name. name) (codes "::") names ++ codes "." ++ stability_text stable

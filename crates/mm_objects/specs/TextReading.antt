@@ -8,12 +8,11 @@ use Rattle.mm_objects.specs.declared.objects.ObjDef.{ObjDef}
 use Rattle.mm_objects.specs.declared.objects.ObjDef.TheVariants as defs
 use Rattle.mm_objects.specs.declared.objects.ObjBlock.{ObjBlock}
 use Rattle.mm_objects.specs.declared.objects.ObjInstr.{ObjInstr}
-use Rattle.mm_objects.specs.declared.progress.Header.{Header}
 use Rattle.mm_objects.specs.declared.progress.OpenUnit.{OpenUnit}
 use Rattle.mm_objects.specs.declared.progress.OpenCode.{OpenCode}
 use Rattle.mm_objects.specs.declared.progress.Progress.{Progress}
 use Rattle.mm_objects.specs.declared.progress.Progress.TheVariants as at
-use Rattle.mm_objects.specs.ObjectText.{Word, Line}
+use Rattle.mm_objects.specs.ObjectText.{Line}
 use Rattle.mm_objects.specs.LineReading.{◌>>=◌, first_of, only_of, if_done, named_in, symbol_in, unit_name_in, header_in, label_in, instr_in, end_in}
 
 -- ---- what is made of what was read

@@ -1,6 +1,6 @@
 -- The words of a line as they are written one after the other.
 use Rattle.std.specs.Prelude.{ℕ, List, [], ◌∷◌, ◌++◌, flat_map}
-use Rattle.mm_objects.specs.ObjectText.{Word, Line}
+use Rattle.mm_objects.specs.ObjectText.{Line}
 
 -- each word behind a blank
 abbrev pub spaced : Line → List ℕ

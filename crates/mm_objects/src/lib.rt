@@ -11,6 +11,7 @@ mod pieces;
 mod progress;
 mod reading;
 mod steps;
+mod unit_name;
 mod words;
 mod writing;
 

@@ -9,7 +9,7 @@ const WHOLE: &str = "objects 1\nmain _MFN3app4mainEIE\nunit app/app.stable\n\
     bb2\nunreachable\nend\n";
 
 const FRONT: &str =
-    "objects 1\nmain _MFN3app4mainEIE\nunit u\nfn _MFN3app4mainEIE External 0 1 1\nbb0\n";
+    "objects 1\nmain _MFN3app4mainEIE\nunit u/u.stable\nfn _MFN3app4mainEIE External 0 1 1\nbb0\n";
 
 /// Texts of one function with these lines behind its first label, and the line that is to blame.
 const LINES: [(&str, u32); 32] = [
@@ -48,7 +48,7 @@ const LINES: [(&str, u32); 32] = [
 ];
 
 /// Texts, and the line that is to blame.
-const TEXTS: [(&str, u32); 18] = [
+const TEXTS: [(&str, u32); 22] = [
     ("", 1),
     ("\n", 1),
     ("objects 1", 1),
@@ -61,25 +61,32 @@ const TEXTS: [(&str, u32); 18] = [
     ("objects 1\nmain _MFN3app4mainEIE\nend\n", 3),
     ("objects 1\nmain _MFN3app4mainEIE\nunit\n", 3),
     ("objects 1\nmain _MFN3app4mainEIE\nunit \n", 3),
-    ("objects 1\nmain _MFN3app4mainEIE\nunit u\nunit v\nend\n", 4),
+    ("objects 1\nmain _MFN3app4mainEIE\nunit u\n", 3),
+    ("objects 1\nmain _MFN3app4mainEIE\nunit u/u\n", 3),
+    ("objects 1\nmain _MFN3app4mainEIE\nunit u/u.firm\n", 3),
+    ("objects 1\nmain _MFN3app4mainEIE\nunit u/u:v.stable\n", 3),
     (
-        "objects 1\nmain _MFN3app4mainEIE\nunit u\nfn _MFN3app4mainEIE External 1 1 1\n",
+        "objects 1\nmain _MFN3app4mainEIE\nunit u/u.stable\nunit u/v.stable\nend\n",
         4,
     ),
     (
-        "objects 1\nmain _MFN3app4mainEIE\nunit u\nfn _MFN3app4mainEIE External 0 65537 1\n",
+        "objects 1\nmain _MFN3app4mainEIE\nunit u/u.stable\nfn _MFN3app4mainEIE External 1 1 1\n",
         4,
     ),
     (
-        "objects 1\nmain _MFN3app4mainEIE\nunit u\nfn _MFN3app4mainEIE External 0 1 0\n",
+        "objects 1\nmain _MFN3app4mainEIE\nunit u/u.stable\nfn _MFN3app4mainEIE External 0 65537 1\n",
         4,
     ),
     (
-        "objects 1\nmain _MFN3app4mainEIE\nunit u\nfn _MFN3app4mainEIE external 0 1 1\n",
+        "objects 1\nmain _MFN3app4mainEIE\nunit u/u.stable\nfn _MFN3app4mainEIE External 0 1 0\n",
         4,
     ),
     (
-        "objects 1\nmain _MFN3app4mainEIE\nunit u\nfn _MFN3app4mainEIE External 0 1 1\nbb1\n",
+        "objects 1\nmain _MFN3app4mainEIE\nunit u/u.stable\nfn _MFN3app4mainEIE external 0 1 1\n",
+        4,
+    ),
+    (
+        "objects 1\nmain _MFN3app4mainEIE\nunit u/u.stable\nfn _MFN3app4mainEIE External 0 1 1\nbb1\n",
         5,
     ),
 ];

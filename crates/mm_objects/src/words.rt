@@ -1,9 +1,9 @@
 ghost use Rattle.std.specs.Prelude.{◌≡◌, ◌==◌, codes, map, IfOk, Option, Some, None};
-ghost use Rattle.std.specs.List.{slice_split, list_all};
+ghost use Rattle.std.specs.List.{slice_split};
 ghost use Rattle.std.specs.Option.{option_map};
 ghost use Rattle.std.specs.Str.{bytes_eq};
-ghost use Rattle.mm_objects.specs.ObjectNames.{is_graphic, is_code, is_unit_name};
-ghost use Rattle.mm_objects.specs.LineReading.{is_form_of_code, is_code_symbol, behind, place_in, copied_in, moved_in, truth_in, literal_in, operand_in, op_in, linkage_in, symbol_in, unit_name_in, callee_in};
+ghost use Rattle.mm_objects.specs.ObjectNames.{is_code};
+ghost use Rattle.mm_objects.specs.LineReading.{is_form_of_code, is_code_symbol, behind, place_in, copied_in, moved_in, truth_in, literal_in, operand_in, op_in, linkage_in, symbol_in, callee_in};
 ghost use Rattle.mm_objects.specs.Given.{Gives};
 
 use crate::line_error::LineError;
@@ -128,18 +128,6 @@ pub fn linkage(word: &[u8]) -> Option<Linkage>
     None
 }
 
-fn all_graphic(bytes: &[u8]) -> bool
-    ensures { result ≡ list_all is_graphic bytes.now }
-{
-    bytes.iter().all(|b| *b != b' ' && *b != b'\n')
-}
-
-fn is_graphic(bytes: &[u8]) -> bool
-    ensures { result ≡ is_unit_name bytes.now }
-{
-    0 < bytes.len() && all_graphic(bytes)
-}
-
 /// Whether it is code that a symbol names.
 fn is_code(item: &SymItem) -> bool
     ensures { result ≡ is_code item.now }
@@ -178,17 +166,6 @@ pub fn symbol(alloc: Global, word: &[u8]) -> Result<Text, LineError>
     ensures { Gives result (symbol_in word.now) }
 {
     if !is_code_symbol(alloc, word)? {
-        return Err(LineError::Unfit);
-    }
-    Ok(Text::from_slice(alloc, word)?)
-}
-
-/// The name of a unit.
-#[tactic(auto, unfolding(crate::specs::LineReading::unit_name_in))]
-pub fn unit_name(alloc: Global, word: &[u8]) -> Result<Text, LineError>
-    ensures { Gives result (unit_name_in word.now) }
-{
-    if !is_graphic(word) {
         return Err(LineError::Unfit);
     }
     Ok(Text::from_slice(alloc, word)?)

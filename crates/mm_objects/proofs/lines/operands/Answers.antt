@@ -1,7 +1,7 @@
-use Rattle.std.proofs.Common.{◌≡◌, ◌∙◌, sym, ap, arith, Err}
+use Rattle.std.proofs.Common.{◌∙◌, ap, Err}
 use Rattle.std.proofs.lemmas.Result.{err_from_is_err_and}
-use Rattle.mm_objects.specs.LineReading.{all_in, arm_in, operand_in}
-use Rattle.mm_objects.proofs.PieceLemmas.{seen, all_in-step, all_in-stop, all_in-end, stopped}
+use Rattle.mm_objects.specs.LineReading.{operand_in}
+use Rattle.mm_objects.proofs.PieceLemmas.{all_in-step, all_in-stop, all_in-end, stopped}
 use Rattle.mm_objects.proofs.lines.operands.Goals as goal
 
 pub returns-in_err-operand_of : goal.returns-in_err-operand_of

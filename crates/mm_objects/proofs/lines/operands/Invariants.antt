@@ -1,5 +1,5 @@
 use Rattle.std.proofs.Common.{◌≡◌, drop}
-use Rattle.mm_objects.specs.LineReading.{all_in, arm_in, operand_in}
+use Rattle.mm_objects.specs.LineReading.{all_in, operand_in}
 use Rattle.mm_objects.proofs.PieceLemmas.{seen, with_front}
 use Rattle.mm_objects.proofs.lines.operands.Given as goal
 

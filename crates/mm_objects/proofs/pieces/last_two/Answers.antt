@@ -1,4 +1,4 @@
-use Rattle.std.proofs.Common.{◌≡◌, sym, ap, ◌∙◌, length, None, refl, arith}
+use Rattle.std.proofs.Common.{◌≡◌, sym, None, refl, arith}
 use Rattle.mm_objects.specs.LineReading.{last_two}
 use Rattle.mm_objects.proofs.PieceLemmas.{seen, last_two-seen, last_two-short}
 use Rattle.mm_objects.proofs.pieces.last_two.Goals as goal

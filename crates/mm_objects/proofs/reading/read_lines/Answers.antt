@@ -2,7 +2,7 @@ use Rattle.std.proofs.Common.{rules, ◌≡◌, ◌∙◌, ◌+◌, sym, ap, sub
 use Rattle.std.proofs.lemmas.Result.{err_from_is_err_and}
 use Rattle.mm_objects.specs.declared.progress.Progress.TheVariants as at
 use Rattle.mm_objects.specs.Given.{GivesAt}
-use Rattle.mm_objects.specs.TextReading.{next_in, words_in, at_line, follow, done_of, if_none, text_in}
+use Rattle.mm_objects.specs.TextReading.{follow}
 use Rattle.mm_objects.proofs.PieceLemmas.{seen, seen-length}
 use Rattle.mm_objects.proofs.FollowLemmas.{follow-step, follow-stop, follow-end, stopped_at, text-stop, text-end}
 use Rattle.mm_objects.proofs.reading.read_lines.Goals as goal

@@ -1,6 +1,5 @@
-use Rattle.std.proofs.Common.{◌≡◌, ◌++◌, map, take, flat_map}
-use Rattle.mm_objects.specs.ObjectText.{operand_text, arm_text, instr_words, def_lines, unit_lines, written}
-use Rattle.mm_objects.specs.Written.{spaced}
+use Rattle.std.proofs.Common.{◌≡◌, ◌++◌, take, flat_map}
+use Rattle.mm_objects.specs.ObjectText.{def_lines, written}
 use Rattle.mm_objects.proofs.writing.write_defs.Given as goal
 
 abbrev pub invariant-loop-def : goal.invariant-loop-def

@@ -1,6 +1,5 @@
-use Rattle.std.proofs.Common.{◌≡◌, ◌++◌, map, take, flat_map}
-use Rattle.mm_objects.specs.ObjectText.{operand_text, arm_text, instr_words, def_lines, unit_lines, written}
-use Rattle.mm_objects.specs.Written.{spaced}
+use Rattle.std.proofs.Common.{◌≡◌, ◌++◌, map, take}
+use Rattle.mm_objects.specs.ObjectText.{instr_words, written}
 use Rattle.mm_objects.proofs.writing.write_instrs.Given as goal
 
 abbrev pub invariant-loop-instr : goal.invariant-loop-instr

@@ -1,0 +1,10 @@
+pub mod Renaming
+pub mod MemoryLaws
+pub mod FormLaws
+pub mod RunLaws
+pub mod Places
+pub mod Items
+pub mod Joint
+pub mod Named
+pub mod Simulation
+pub mod Locals

@@ -1,0 +1,15 @@
+use Rattle.std.proofs.Common.{◌≡◌, arith, subst, ℕ, List, true}
+use Rattle.std.specs.Option.{option_or}
+use Rattle.mm_link.specs.Index.{found_from, leads, shared_in}
+use Rattle.mm_link.proofs.Names.{share_more}
+use Rattle.mm_link.proofs.index.shared_names.Goals as goal
+
+pub loop-place-preserved : goal.loop-place-preserved
+loop-place-preserved c =
+    let units = c.args.units.now in
+    let unit = c.index-units-place.result in
+    let n = c.loop-place.place in
+    let same : c.in-Ok.number ≡ n = omega arith in
+    share_more units n unit (leads c.loop-place.names) (leads c.note_unit.new.names) (shared_in units) c.loop-place-test.true c.index-units-place.is
+    (subst (λ k. (s : List ℕ) → leads c.note_unit.new.names s ≡ option_or (leads c.loop-place.names s) (found_from true k 0 unit.defs s)) same c.in_ok-note_unit.ensures)
+    c.loop-place.invariant

@@ -1,0 +1,194 @@
+ghost use Rattle.std.specs.Prelude.{◌≡◌, ◌≢◌, ◌++◌, ◌<◌, [], All, get_or, length, OnOk, IfOk, MatchOption, false, flat_map, map};
+ghost use Rattle.std.specs.List.{enumerate_from};
+ghost use Rattle.std.specs.Ordering.{is_lt};
+ghost use Rattle.mm_link.specs.Clashes.{IsFirst, IsIndexOf, IsLeast};
+ghost use Rattle.mm_link.specs.Index.{placed_at};
+ghost use Rattle.mm_link.specs.Linking.{clash_cmp, earlier, target_cmp as text_order, told};
+ghost use Rattle.mm_link.specs.Index.{open_in, own_in};
+ghost use Rattle.mm_link.specs.declared.clash.Clash.{Clash};
+ghost use Rattle.std.specs.declared.cmp.Ordering.TheVariants.{Less};
+ghost use Rattle.mm_objects.specs.Resolution.{placed, placed_in};
+
+use crate::index::{Index, is_shared, symbol};
+use mm_machines::Target;
+use mm_objects::{ObjDef, ObjUnit};
+use mm_terms::{NoMemory, Text};
+use sqlite_items::Items;
+use std::alloc::Global;
+use std::cmp::Ordering;
+
+/// Two definitions of one symbol, of which a reference could name either.
+#[derive(Debug, Drop)]
+pub struct Clash {
+    pub symbol: Text,
+    /// The definition that is earlier in the text.
+    pub first: Target,
+    pub second: Target,
+}
+
+/// The order of definitions in the text.
+fn target_cmp(t: Target, u: Target) -> Ordering
+    ensures { result ≡ text_order t u }
+{
+    t.unit.cmp(&u.unit).then(t.def.cmp(&u.def))
+}
+
+impl Clash {
+    /// The order by symbol, and then by the places of both definitions.
+    fn order(&self, other: &Clash) -> Ordering
+        ensures { result ≡ clash_cmp self.now other.now }
+    {
+        let symbols = self.symbol.as_slice().cmp(other.symbol.as_slice());
+        let firsts = target_cmp(self.first, other.first);
+        let seconds = target_cmp(self.second, other.second);
+        symbols.then(firsts.then(seconds))
+    }
+}
+
+/// Notes the clash of a definition with another, where that is earlier.
+fn note_earlier(
+    alloc: Global,
+    clashes: &mut Vec<Clash>,
+    first: Option<Target>,
+    symbol: &[u8],
+    second: Target,
+) -> Result<(), NoMemory>
+    ensures { OnOk result (clashes.new.items ≡ clashes.old.items ++ earlier first symbol.now second) }
+{
+    let Some(first) = first else {
+        return Ok(());
+    };
+    if target_cmp(first, second).is_lt() {
+        let symbol = Items::from_slice(alloc, symbol)?;
+        clashes.push(Clash {
+            symbol,
+            first,
+            second,
+        })?;
+    }
+    Ok(())
+}
+
+/// The unit's own first definition of a symbol.
+#[tactic(auto, using(crate::proofs::Finding::own_found))]
+fn own_first(_units: &[ObjUnit], index: &Index, unit: u32, symbol: &[u8]) -> Option<Target>
+    requires { IsIndexOf _units.now index.now }
+    ensures { result ≡ own_in _units.now unit symbol.now }
+{
+    index.own_def(unit, symbol)
+}
+
+/// The first definition of the symbol of one, to which every unit may refer, where that is so of this one.
+fn open_first(_units: &[ObjUnit], index: &Index, def: &ObjDef) -> Option<Target>
+    requires { IsIndexOf _units.now index.now }
+    ensures { result ≡ open_in _units.now def.now }
+{
+    if !is_shared(def) {
+        return None;
+    }
+    index.shared_def(symbol(def))
+}
+
+/// Notes the clashes of a definition with earlier ones of its symbol.
+fn note_clashes(
+    alloc: Global,
+    clashes: &mut Vec<Clash>,
+    units: &[ObjUnit],
+    index: &Index,
+    at: Target,
+    def: &ObjDef,
+) -> Result<(), NoMemory>
+    requires { IsIndexOf units.now index.now }
+    ensures { OnOk result (clashes.new.items ≡ clashes.old.items ++ told units.now (placed_at at.unit (at.def, def.now))) }
+{
+    let symbol = symbol(def);
+    let own = own_first(units, index, at.unit, symbol);
+    note_earlier(alloc, clashes, own, symbol, at)?;
+    let open = open_first(units, index, def);
+    note_earlier(alloc, clashes, open, symbol, at)
+}
+
+/// Notes the clashes of the definitions of a unit with earlier ones.
+fn note_unit(
+    alloc: Global,
+    clashes: &mut Vec<Clash>,
+    units: &[ObjUnit],
+    index: &Index,
+    number: u32,
+    unit: &ObjUnit,
+) -> Result<(), NoMemory>
+    requires { IsIndexOf units.now index.now }
+    ensures { OnOk result (clashes.new.items ≡ clashes.old.items ++ flat_map (told units.now) (placed_in (number, unit.now))) }
+{
+    for (place, def) in unit.defs.as_slice().iter().enumerate() {
+        let Ok(place) = u32::try_from(place) else {
+            return Err(NoMemory);
+        };
+        let at = Target {
+            unit: number,
+            def: place,
+        };
+        note_clashes(alloc, clashes, units, index, at, def)?;
+    }
+    Ok(())
+}
+
+/// The clashes of definitions with earlier ones.
+fn clashes(alloc: Global, units: &[ObjUnit], index: &Index) -> Result<Vec<Clash>, NoMemory>
+    requires { IsIndexOf units.now index.now }
+    ensures { IfOk result (λ found. found.items ≡ flat_map (told units.now) (placed units.now)) }
+{
+    let mut found = Vec::new(alloc);
+    for (place, unit) in units.iter().enumerate() {
+        let Ok(number) = u32::try_from(place) else {
+            return Err(NoMemory);
+        };
+        note_unit(alloc, &mut found, units, index, number, unit)?;
+    }
+    Ok(found)
+}
+
+/// Of two places, that of the lesser clash; the first where neither is less.
+#[tactic(auto, using(crate::proofs::Least::not_less_self, crate::proofs::Least::keeps_least))]
+fn lesser(clashes: &[Clash], best: usize, other: usize) -> usize
+    requires best { best < length clashes.now }
+    requires other { other < length clashes.now }
+    ensures within { result < length clashes.now }
+    ensures least { (d : Clash) → clash_cmp (get_or clashes.now other d) (get_or clashes.now result d) ≢ Less }
+    ensures keeps { (d y : Clash) → clash_cmp y (get_or clashes.now best d) ≢ Less → clash_cmp y (get_or clashes.now result d) ≢ Less }
+{
+    if clashes[other].order(&clashes[best]).is_lt() {
+        return other;
+    }
+    best
+}
+
+/// The place of the least of some clashes.
+fn least(clashes: &[Clash]) -> Option<usize>
+    ensures { IsLeast clashes.now result }
+{
+    if clashes.is_empty() {
+        return None;
+    }
+    let mut best = 0;
+    for i in 0..clashes.len() {
+        best = lesser(clashes, best, i);
+    }
+    Some(best)
+}
+
+/// The least clash among units, where there is one.
+pub fn least_clash(
+    alloc: Global,
+    units: &[ObjUnit],
+    index: &Index,
+) -> Result<Option<Clash>, NoMemory>
+    requires { IsIndexOf units.now index.now }
+    ensures { IfOk result (λ clash. IsFirst units.now clash) }
+{
+    let mut found = clashes(alloc, units, index)?;
+    match least(&found) {
+        None => Ok(None),
+        Some(place) => Ok(Some(found.remove(place))),
+    }
+}

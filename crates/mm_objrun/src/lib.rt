@@ -1,0 +1,15 @@
+//! Runs an image of objects, step by step.
+#![tactic(auto)]
+
+mod calls;
+mod cells;
+mod machine;
+mod operands;
+mod run;
+mod statements;
+mod step;
+
+pub use run::run_image;
+
+#[cfg(test)]
+mod tests;

@@ -1,4 +1,9 @@
+pub mod Pushing
 pub mod OneUnit
 pub mod References
 pub mod OneOrder
 pub mod OneEmission
+pub mod OwnSymbols
+pub mod HaveText
+pub mod LinkedLemmas
+pub mod Running

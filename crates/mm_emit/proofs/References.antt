@@ -1,11 +1,10 @@
 -- Each reference names a definition of the item that is used there.
-use Rattle.std.proofs.Common.{◌≡◌, ℕ, zero, suc, ◌+◌, ◌<◌, ◌⊎◌, inl, inr, cond, ◌&&◌, ◌==◌, Bool, true, false, List, [], ◌∷◌, ◌++◌, map, length, get_or, flat_map, Some, None, refl, sym, ap, ◌∙◌, subst, arith}
+use Rattle.std.proofs.Common.{◌≡◌, ℕ, zero, suc, ◌+◌, ◌<◌, ◌⊎◌, inl, inr, cond, ◌&&◌, ◌==◌, Bool, true, false, List, [], ◌∷◌, map, get_or, Some, None, refl, sym, ap, ◌∙◌, subst, arith}
 use Rattle.std.proofs.lemmas.Bool.{false≢true}
 use Rattle.std.specs.declared.option.Option.{Option}
 use Rattle.std.specs.Prelude.{Contains, unwrap_or, slice_get}
 use Rattle.std.proofs.lemmas.Option.{none-some}
 use Rattle.std.specs.List.{enumerate_from, find}
-use Rattle.std.specs.List.Sorted.{IsPermutation}
 use Rattle.std.specs.Option.{option_or}
 use Rattle.std.specs.Str.{bytes_eq}
 use Rattle.std.proofs.lemmas.List.Elements.{Contains-append_left, Contains-append_right, Contains-append_cases}
@@ -22,8 +21,8 @@ use Rattle.mm_objects.specs.declared.objects.ObjUnit.{ObjUnit}
 use Rattle.mm_objects.specs.declared.objects.ObjDef.{ObjDef}
 use Rattle.mm_objects.specs.declared.objects.Linkage.{Linkage}
 use Rattle.mm_objects.specs.declared.objects.Linkage.TheVariants.{External}
-use Rattle.mm_objects.specs.Resolution.{Placed, placed, placed_in, resolve, is_own, is_shared, is_external, defines, symbol_of, link_of}
-use Rattle.mm_objects.specs.Emitted.{AreObjectsOf, AllResolve, HaveOwnSymbols, IsOf, IsUnitOf, Resolves, Share, UseThemselves, AreUnitsOf, code_of, def_of, item_symbol, whole_crate}
+use Rattle.mm_objects.specs.Resolution.{Placed, placed, resolve, is_own, is_shared, is_external, defines, symbol_of, link_of}
+use Rattle.mm_objects.specs.Emitted.{AreObjectsOf, AllResolve, HaveOwnSymbols, IsOf, IsUnitOf, Resolves, UseThemselves, AreUnitsOf, code_of, def_of, item_symbol, whole_crate}
 
 -- ---- lists
 
@@ -39,10 +38,10 @@ module _ {X : Type 0} where
   either x xs y (inl first) = inl (only x y first)
   either x xs y (inr other) = inr other
 
-  first_or_other : (x : X) (xs : List X) (y : X) → Contains (x ∷ xs) y → (y ≡ x) ⊎ Contains xs y
+  pub first_or_other : (x : X) (xs : List X) (y : X) → Contains (x ∷ xs) y → (y ≡ x) ⊎ Contains xs y
   first_or_other x xs y here = either x xs y (Contains-append_cases (x ∷ []) xs y here)
 
-  later : (x : X) (xs : List X) (y : X) → Contains xs y → Contains (x ∷ xs) y
+  pub later : (x : X) (xs : List X) (y : X) → Contains xs y → Contains (x ∷ xs) y
   later x xs y here = Contains-append_right (x ∷ []) xs y here
 
   first : (x y : X) (xs : List X) → y ≡ x → Contains (x ∷ xs) y
@@ -64,11 +63,11 @@ module _ {X : Type 0} where
   missed_here test x xs y false is holds others (inl here) none = absurd (false≢true (sym is ∙ ap test (sym here) ∙ holds))
   missed_here test x xs y false is holds others (inr there) none = others y there holds none
 
-  find_is : (test : X → Bool) (xs : List X) (y : X) → find test xs ≡ Some y → Found test xs y
+  pub find_is : (test : X → Bool) (xs : List X) (y : X) → find test xs ≡ Some y → Found test xs y
   find_is test [] y found = absurd (none-some y found)
   find_is test (x ∷ xs) y found = found_here test x xs y (test x) refl (find_is test xs) found
 
-  find_misses : (test : X → Bool) (xs : List X) (y : X) → Contains xs y → test y ≡ true → find test xs ≡ None → ⊥
+  pub find_misses : (test : X → Bool) (xs : List X) (y : X) → Contains xs y → test y ≡ true → find test xs ≡ None → ⊥
   find_misses test [] y here holds none = absurd (omega (arith, here.1))
   find_misses test (x ∷ xs) y here holds none = missed_here test x xs y (test x) refl holds (find_misses test xs) (first_or_other x xs y here) none
 
@@ -97,7 +96,7 @@ module _ {X Y : Type 0} (f : X → Y) where
   mapped_in x xs y others (inl is) = first (f x) (f y) (map f xs) (ap f is)
   mapped_in x xs y others (inr there) = later (f x) (map f xs) (f y) (others there)
 
-  mapped : (xs : List X) (y : X) → Contains xs y → Contains (map f xs) (f y)
+  pub mapped : (xs : List X) (y : X) → Contains xs y → Contains (map f xs) (f y)
   mapped [] y here = absurd (omega (arith, here.1))
   mapped (x ∷ xs) y here = mapped_in x xs y (mapped xs y) (first_or_other x xs y here)
 
@@ -108,11 +107,11 @@ module _ {X Y : Type 0} (f : X → Y) where
   comes_in x xs y others (inl is) = (x, first x x xs refl, is)
   comes_in x xs y others (inr there) = let from = others there in (from.0, later x xs from.0 from.1, from.2)
 
-  comes_from : (xs : List X) (y : Y) → Contains (map f xs) y → ComesFrom xs y
+  pub comes_from : (xs : List X) (y : Y) → Contains (map f xs) y → ComesFrom xs y
   comes_from [] y here = absurd (omega (arith, here.1))
   comes_from (x ∷ xs) y here = comes_in x xs y (comes_from xs y) (first_or_other (f x) (map f xs) y here)
 
-and_right : (a b : Bool) → (a && b) ≡ true → b ≡ true
+pub and_right : (a b : Bool) → (a && b) ≡ true → b ≡ true
 and_right true b is = is
 and_right false b is = absurd (false≢true is)
 
@@ -142,13 +141,13 @@ def_link p link (Static d) = refl
 -- ---- the one unit
 
 module _ (p : Program) (items : List Item) (u : ObjUnit) (is : IsUnitOf p (whole_crate p items) u) (own : HaveOwnSymbols p items) where
-  abbrev made : Item × Linkage → ObjDef
+  abbrev pub made : Item × Linkage → ObjDef
   made one = def_of p one.1 one.0
 
-  abbrev shared : Item → Item × Linkage
+  abbrev pub shared : Item → Item × Linkage
   shared x = (x, External)
 
-  abbrev at : ℕ × ObjDef → Placed
+  abbrev pub at : ℕ × ObjDef → Placed
   at def = record { unit = 0; number = def.0; def = def.1 }
 
   -- each definition is of an item
@@ -160,17 +159,17 @@ module _ (p : Program) (items : List Item) (u : ObjUnit) (is : IsUnitOf p (whole
       (x.0, x.1, one.2 ∙ ap made x.2)
 
   -- what is placed is a definition of the unit
-  placed_cases : (one : Placed) → Contains (map at (enumerate_from 0 u.defs)) one ⊎ Contains [] one → Contains u.defs one.def
+  pub placed_cases : (one : Placed) → Contains (map at (enumerate_from 0 u.defs)) one ⊎ Contains [] one → Contains u.defs one.def
   placed_cases one (inl here) =
       let e = comes_from at (enumerate_from 0 u.defs) one here in
       subst (Contains u.defs) (sym (ap (λ o. o.def) e.2)) (numbered 0 u.defs e.0 e.1)
   placed_cases one (inr none) = absurd (omega (arith, none.1))
 
-  placed_from : (one : Placed) → Contains (placed (u ∷ [])) one → Contains u.defs one.def
+  pub placed_from : (one : Placed) → Contains (placed (u ∷ [])) one → Contains u.defs one.def
   placed_from one here = placed_cases one (Contains-append_cases (map at (enumerate_from 0 u.defs)) [] one here)
 
   -- a definition of an item's symbol is of the item
-  names : (y : Item) → Contains items y → (one : Placed) → Contains (placed (u ∷ [])) one → defines (item_symbol p y) one ≡ true → IsOf p items y one.def
+  pub names : (y : Item) → Contains items y → (one : Placed) → Contains (placed (u ∷ [])) one → defines (item_symbol p y) one ≡ true → IsOf p items y one.def
   names y member one there defined =
       let from = def_from one.def (placed_from one there) in
       let symbol : symbol_of one.def ≡ item_symbol p y = (bytes_eq-Decides (symbol_of one.def) (item_symbol p y)).0 defined in
@@ -183,7 +182,7 @@ module _ (p : Program) (items : List Item) (u : ObjUnit) (is : IsUnitOf p (whole
       ∙ (bytes_eq-Decides (symbol_of (def_of p External y)) (item_symbol p y)).1 (def_symbol p External y)
 
   -- each item has a definition that all may refer to
-  there_is : (y : Item) → Contains items y → (one : Placed) × Contains (placed (u ∷ [])) one × (is_shared (item_symbol p y) one ≡ true)
+  pub there_is : (y : Item) → Contains items y → (one : Placed) × Contains (placed (u ∷ [])) one × (is_shared (item_symbol p y) one ≡ true)
   there_is y member =
       let def = Contains-permutation (map made (map shared items)) u.defs (def_of p External y) is.of_items (mapped made (map shared items) (y, External) (mapped shared items y member)) in
       let k = number 0 u.defs (def_of p External y) def in
@@ -209,7 +208,7 @@ module _ (p : Program) (items : List Item) (u : ObjUnit) (is : IsUnitOf p (whole
       let one = there_is y member in
       absurd (find_misses (is_shared (item_symbol p y)) (placed (u ∷ [])) one.0 one.1 one.2 at_shared)
 
-  resolved : (unit : ℕ) (y : Item) → Contains items y → Resolves p items (u ∷ []) unit y
+  pub resolved : (unit : ℕ) (y : Item) → Contains items y → Resolves p items (u ∷ []) unit y
   resolved unit y member = by_cases unit y member (find (is_own unit (item_symbol p y)) (placed (u ∷ []))) (find (is_shared (item_symbol p y)) (placed (u ∷ []))) refl refl
 
 -- ---- objects

@@ -1,7 +1,8 @@
 //! What stands in a body and names no item. It stays as it is.
 
-ghost use Rattle.std.specs.Prelude.{◌≡◌, map, IfOk};
+ghost use Rattle.std.specs.Prelude.{◌≡◌, map, All, IfOk};
 ghost use Rattle.mm_objects.specs.Emitted.{place_of, operand_of, rvalue_of, instr_of};
+ghost use Rattle.mm_emit.specs.Numbers.{FitsOperand, FitsRvalue, FitsInstr};
 
 use mm_collect::{Operand, Place, Rvalue, Statement};
 use mm_objects::{ObjBase, ObjInstr, ObjOperand, ObjPlace, ObjRvalue};
@@ -18,7 +19,8 @@ pub fn place(place: Place) -> ObjPlace
 }
 
 pub fn operand(from: Operand) -> ObjOperand
-    ensures { result ≡ operand_of from }
+    ensures made { result ≡ operand_of from }
+    ensures fits { FitsOperand result }
 {
     match from {
         Operand::Copy(from) => ObjOperand::Copy(place(from)),
@@ -29,7 +31,8 @@ pub fn operand(from: Operand) -> ObjOperand
 }
 
 pub fn operands(alloc: Global, from: &[Operand]) -> Result<Items<ObjOperand>, NoMemory>
-    ensures { IfOk result (λ made. made ≡ map operand_of from.now) }
+    ensures made { IfOk result (λ made. made ≡ map operand_of from.now) }
+    ensures fits { IfOk result (All FitsOperand) }
 {
     let mut made = Items::new(alloc);
     for one in from {
@@ -39,7 +42,8 @@ pub fn operands(alloc: Global, from: &[Operand]) -> Result<Items<ObjOperand>, No
 }
 
 fn rvalue(from: Rvalue) -> ObjRvalue
-    ensures { result ≡ rvalue_of from }
+    ensures made { result ≡ rvalue_of from }
+    ensures fits { FitsRvalue result }
 {
     match from {
         Rvalue::Use(from) => ObjRvalue::Use(operand(from)),
@@ -49,7 +53,8 @@ fn rvalue(from: Rvalue) -> ObjRvalue
 }
 
 fn instr(from: Statement) -> ObjInstr
-    ensures { result ≡ instr_of from }
+    ensures made { result ≡ instr_of from }
+    ensures fits { FitsInstr result }
 {
     match from {
         Statement::Set(to, from) => ObjInstr::Set(place(to), rvalue(from)),
@@ -58,7 +63,8 @@ fn instr(from: Statement) -> ObjInstr
 }
 
 pub fn instrs(alloc: Global, from: &[Statement]) -> Result<Items<ObjInstr>, NoMemory>
-    ensures { IfOk result (λ made. made ≡ map instr_of from.now) }
+    ensures made { IfOk result (λ made. made ≡ map instr_of from.now) }
+    ensures fits { IfOk result (All FitsInstr) }
 {
     let mut made = Items::new(alloc);
     for one in from {

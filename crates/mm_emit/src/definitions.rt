@@ -1,9 +1,10 @@
 //! The definition that an item is compiled to.
 
-ghost use Rattle.std.specs.Prelude.{◌≡◌, map, length, slice_get, Some, [], IfOk};
+ghost use Rattle.std.specs.Prelude.{◌≡◌, map, length, slice_get, Some, [], All, IfOk};
 ghost use Rattle.mm_objects.specs.Emitted.{item_symbol, end_of, block_of, code_of, def_of};
 ghost use Rattle.mm_collect.specs.Uses.{called};
 ghost use Rattle.mm_objects.specs.declared.objects.ObjDef.TheVariants.{Code};
+ghost use Rattle.mm_emit.specs.Numbers.{FitsArm, FitsEnd, FitsBlock, FitsDef};
 
 use crate::bodies::{instrs, operand, operands, place};
 use mm_collect::{Arm, Block, Call, End, Function, Program};
@@ -22,18 +23,28 @@ fn callee(alloc: Global, p: &Program, args: &[Ty], call: &Call) -> Result<Text, 
     symbol(alloc, p, &Item::Fn(call.callee, args))
 }
 
+/// The arm as it is. Its number is below 2^64.
+fn same(arm: Arm) -> Arm
+    ensures same { result ≡ arm }
+    ensures fits { FitsArm result }
+{
+    arm
+}
+
 fn arms(alloc: Global, from: &[Arm]) -> Result<Items<Arm>, NoMemory>
-    ensures { IfOk result (λ made. made ≡ from.now) }
+    ensures made { IfOk result (λ made. made ≡ from.now) }
+    ensures fits { IfOk result (All FitsArm) }
 {
     let mut made = Items::new(alloc);
     for arm in from {
-        made.push(*arm)?;
+        made.push(same(*arm))?;
     }
     Ok(made)
 }
 
 fn end(alloc: Global, p: &Program, args: &[Ty], from: &End) -> Result<ObjEnd, NoMemory>
-    ensures { IfOk result (λ made. made ≡ end_of p.now args.now from.now) }
+    ensures made { IfOk result (λ made. made ≡ end_of p.now args.now from.now) }
+    ensures fits { IfOk result FitsEnd }
 {
     match from {
         End::Return => Ok(ObjEnd::Return),
@@ -52,7 +63,8 @@ fn end(alloc: Global, p: &Program, args: &[Ty], from: &End) -> Result<ObjEnd, No
 }
 
 fn block(alloc: Global, p: &Program, args: &[Ty], from: &Block) -> Result<ObjBlock, NoMemory>
-    ensures { IfOk result (λ made. made ≡ block_of p.now args.now from.now) }
+    ensures made { IfOk result (λ made. made ≡ block_of p.now args.now from.now) }
+    ensures fits { IfOk result FitsBlock }
 {
     Ok(ObjBlock {
         instrs: instrs(alloc, from.statements.as_slice())?,
@@ -66,7 +78,8 @@ fn blocks(
     args: &[Ty],
     from: &[Block],
 ) -> Result<Items<ObjBlock>, NoMemory>
-    ensures { IfOk result (λ made. made ≡ map (block_of p.now args.now) from.now) }
+    ensures made { IfOk result (λ made. made ≡ map (block_of p.now args.now) from.now) }
+    ensures fits { IfOk result (All FitsBlock) }
 {
     let mut made = Items::new(alloc);
     for one in from {
@@ -84,7 +97,8 @@ fn code(
     args: &[Ty],
     from: &Function,
 ) -> Result<ObjDef, NoMemory>
-    ensures { IfOk result (λ made. made ≡ code_of p.now symbol link args.now (Some from.now)) }
+    ensures made { IfOk result (λ made. made ≡ code_of p.now symbol link args.now (Some from.now)) }
+    ensures fits { IfOk result FitsDef }
 {
     let Ok(locals) = u32::try_from(from.locals.len()) else {
         return Err(NoMemory);
@@ -100,7 +114,8 @@ fn code(
 
 /// A definition without a block.
 fn empty(alloc: Global, symbol: Text, link: Linkage) -> ObjDef
-    ensures { result ≡ Code symbol link 0 1 [] }
+    ensures made { result ≡ Code symbol link 0 1 [] }
+    ensures fits { FitsDef result }
 {
     ObjDef::Code {
         symbol,
@@ -118,7 +133,8 @@ pub fn definition(
     link: Linkage,
     item: &Item,
 ) -> Result<ObjDef, NoMemory>
-    ensures { IfOk result (λ made. made ≡ def_of p.now link item.now) }
+    ensures made { IfOk result (λ made. made ≡ def_of p.now link item.now) }
+    ensures fits { IfOk result FitsDef }
 {
     let symbol = symbol(alloc, p, item)?;
     let Item::Fn(def, args) = item else {

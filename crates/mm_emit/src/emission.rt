@@ -1,6 +1,6 @@
 //! The objects of a program.
 
-ghost use Rattle.std.specs.Prelude.{◌≡◌, [], ◌∷◌, ◌++◌, map, codes, IfOk, OnOk};
+ghost use Rattle.std.specs.Prelude.{◌≡◌, [], ◌∷◌, ◌++◌, map, codes, All, IfOk, OnOk};
 ghost use Rattle.std.specs.List.Sorted.{IsPermutation, IsSortedByKey};
 ghost use Rattle.std.specs.Cmp.Lexicographic.{slice_cmp};
 ghost use Rattle.std.specs.Ordering.{nat_cmp};
@@ -8,6 +8,7 @@ ghost use Rattle.mm_objects.specs.declared.objects.Linkage.TheVariants.{External
 ghost use Rattle.mm_objects.specs.Emitted.{AreObjectsOf, IsUnitOf, def_of, item_symbol, whole_crate};
 ghost use Rattle.mm_collect.specs.Roots.{item_of};
 ghost use Rattle.mm_objects.specs.Resolution.{symbol_of};
+ghost use Rattle.mm_emit.specs.Numbers.{FitsDef, FitsUnit, NumbersFit};
 
 use crate::definitions::definition;
 use mm_collect::Program;
@@ -18,7 +19,8 @@ use sqlite_items::Items;
 use std::alloc::Global;
 
 fn definitions(alloc: Global, p: &Program, items: &[Item]) -> Result<Vec<ObjDef>, NoMemory>
-    ensures { IfOk result (λ defs. defs.items ≡ map (def_of p.now External) items.now) }
+    ensures made { IfOk result (λ defs. defs.items ≡ map (def_of p.now External) items.now) }
+    ensures fits { IfOk result (λ defs. All FitsDef defs.items) }
 {
     let mut defs = Vec::with_capacity(alloc, items.len())?;
     for item in items {
@@ -65,7 +67,8 @@ fn main_symbol(alloc: Global, p: &Program) -> Result<Text, NoMemory>
 /// All items in one unit, in which every definition is External.
 #[tactic(auto, using(crate::proofs::OneUnit::whole_unit_made))]
 fn whole_unit(alloc: Global, p: &Program, items: &[Item]) -> Result<ObjUnit, NoMemory>
-    ensures { IfOk result (IsUnitOf p.now (whole_crate p.now items.now)) }
+    ensures made { IfOk result (IsUnitOf p.now (whole_crate p.now items.now)) }
+    ensures fits { IfOk result FitsUnit }
 {
     let mut defs = definitions(alloc, p, items)?;
     sort(&mut defs)?;
@@ -78,9 +81,11 @@ fn whole_unit(alloc: Global, p: &Program, items: &[Item]) -> Result<ObjUnit, NoM
 /// The objects of the items of a program: one unit, in which every definition is External.
 ///
 /// An item that is no instance of a function of the program has no block. A body has fewer than 2^32 locals, as every
-/// body that was loaded from a text; a greater one is answered with want of memory.
+/// body that was loaded from a text; a greater one is answered with want of memory. The numbers that are written out are
+/// those of the program, each below 2^64.
 pub fn emit_one(alloc: Global, p: &Program, items: &[Item]) -> Result<Objects, NoMemory>
-    ensures { IfOk result (AreObjectsOf p.now (whole_crate p.now items.now ∷ [])) }
+    ensures objects { IfOk result (AreObjectsOf p.now (whole_crate p.now items.now ∷ [])) }
+    ensures numbers { IfOk result NumbersFit }
 {
     let main = main_symbol(alloc, p)?;
     let mut units = Items::new(alloc);

@@ -1,7 +1,7 @@
 -- Which options words give, and that they mean one command.
 use Rattle.std.proofs.Common.{◌≡◌, ℕ, zero, suc, ◌^◌, ◌<◌, ◌≤◌, ◌+◌, ◌⊎◌, inl, inr, cond, eqb, List, [], ◌∷◌, ◌++◌, map, length, get_or, take, drop, Bor, Some, None, refl, sym, ap, ◌∙◌, subst, arith, codes}
 use Rattle.std.specs.declared.option.Option.{Option}
-use Rattle.std.specs.Prelude.{IsPermutation, decimal, unwrap_or}
+use Rattle.std.specs.Prelude.{IsPermutation, IfSome, decimal, unwrap_or}
 use Rattle.std.specs.List.{Contains, sum_by}
 use Rattle.std.proofs.lemmas.Fmt.{decimal_injective}
 use Rattle.std.proofs.lemmas.List.{append-nil, append_cancel_left, map-append, take-append-drop, drop_more}
@@ -12,7 +12,7 @@ use Rattle.mm_collect.specs.declared.program.Opts.{Opts}
 use Rattle.mm_tool.specs.declared.words.Command.{Command}
 use Rattle.mm_tool.specs.declared.words.Command.TheVariants as command
 use Rattle.mm_tool.specs.declared.limits.Given.{Given}
-use Rattle.mm_tool.specs.Words.{option_word, option_words, IsUpTo, AreLimits, AreWords}
+use Rattle.mm_tool.specs.Words.{option_word, option_words, IsUpTo, AreLimits, AreSteps, AreWords}
 use Rattle.mm_tool.specs.WordReading.{IsOption, Adds, Give}
 
 -- no word is of both options
@@ -172,6 +172,17 @@ limits_one options one other a b =
     let items : a.items ≡ b.items = same_option a.items b.items (items_kept a.length a.items b.length b.items there a.items_is b.items_is) (items_kept b.length b.items a.length a.items back b.items_is a.items_is) in
     a.is ∙ ap (λ l. limits_of l a.items) length ∙ ap (limits_of b.length) items ∙ sym b.is
 
+same_steps : (g h : Option ℕ) → IfSome g (λ n. n ≤ 10000000) → IfSome h (λ n. n ≤ 10000000) → option_word (codes "--steps=") g ≡ option_word (codes "--steps=") h → g ≡ h
+same_steps None None small other same = refl
+same_steps None (Some n) small other same = absurd (omega (arith, ap length same))
+same_steps (Some m) None small other same = absurd (omega (arith, ap length same))
+same_steps (Some m) (Some n) small other same =
+    let words : codes "--steps=" ++ decimal m ≡ codes "--steps=" ++ decimal n = ap (λ ws. get_or ws 0 []) same in
+    ap Some (decimal_injective m n (omega (arith, small)) (omega (arith, other)) (append_cancel_left (codes "--steps=") (decimal m) (decimal n) words))
+
+pub steps_one : (options : List (List ℕ)) (m n : ℕ) → AreSteps options m → AreSteps options n → m ≡ n
+steps_one options m n a b = a.is ∙ ap (λ g. unwrap_or g 1000000) (same_steps a.given b.given a.within b.within (sym a.are ∙ b.are)) ∙ sym b.is
+
 -- the options behind a command
 same_options : (name : List ℕ) (words xs ys : List (List ℕ)) → words ≡ name ∷ xs → words ≡ name ∷ ys → ys ≡ xs
 same_options name words xs ys a b = ap (drop 1) (sym b ∙ a)
@@ -183,17 +194,29 @@ two_names k name other words xs ys a b = ap (λ ws. get_or (get_or ws 0 []) k 0)
 pub command_one : (words : List (List ℕ)) (one other : Command) → AreWords words one → AreWords words other → one ≡ other
 command_one words (command.List m) (command.List n) a b = ap command.List (limits_one a.0 m n a.2 (subst (λ os. AreLimits os n) (same_options (codes "list") words a.0 b.0 a.1 b.1) b.2))
 command_one words (command.Build m) (command.Build n) a b = ap command.Build (limits_one a.0 m n a.2 (subst (λ os. AreLimits os n) (same_options (codes "build") words a.0 b.0 a.1 b.1) b.2))
+command_one words (command.Link m) (command.Link n) a b = ap command.Link (steps_one a.0 m n a.2 (subst (λ os. AreSteps os n) (same_options (codes "link") words a.0 b.0 a.1 b.1) b.2))
 command_one words (command.List m) (command.Build n) a b = absurd (omega (arith, two_names 0 (codes "list") (codes "build") words a.0 b.0 a.1 b.1))
+command_one words (command.List m) (command.Link n) a b = absurd (omega (arith, two_names 2 (codes "list") (codes "link") words a.0 b.0 a.1 b.1))
 command_one words (command.Build m) (command.List n) a b = absurd (omega (arith, two_names 0 (codes "build") (codes "list") words a.0 b.0 a.1 b.1))
+command_one words (command.Build m) (command.Link n) a b = absurd (omega (arith, two_names 0 (codes "build") (codes "link") words a.0 b.0 a.1 b.1))
+command_one words (command.Link m) (command.List n) a b = absurd (omega (arith, two_names 2 (codes "link") (codes "list") words a.0 b.0 a.1 b.1))
+command_one words (command.Link m) (command.Build n) a b = absurd (omega (arith, two_names 0 (codes "link") (codes "build") words a.0 b.0 a.1 b.1))
 
--- options that are no limits are behind no command
+-- options that are no limits, and no steps, are behind no command
 pub list_refused : (words options : List (List ℕ)) → words ≡ codes "list" ∷ options → ((opts : Opts) → AreLimits options opts → ⊥) → (command : Command) → AreWords words command → ⊥
 list_refused words options is none (command.List opts) a = none opts (subst (λ os. AreLimits os opts) (same_options (codes "list") words options a.0 is a.1) a.2)
 list_refused words options is none (command.Build opts) a = absurd (omega (arith, two_names 0 (codes "list") (codes "build") words options a.0 is a.1))
+list_refused words options is none (command.Link steps) a = absurd (omega (arith, two_names 2 (codes "list") (codes "link") words options a.0 is a.1))
 
 pub build_refused : (words options : List (List ℕ)) → words ≡ codes "build" ∷ options → ((opts : Opts) → AreLimits options opts → ⊥) → (command : Command) → AreWords words command → ⊥
 build_refused words options is none (command.List opts) a = absurd (omega (arith, two_names 0 (codes "build") (codes "list") words options a.0 is a.1))
 build_refused words options is none (command.Build opts) a = none opts (subst (λ os. AreLimits os opts) (same_options (codes "build") words options a.0 is a.1) a.2)
+build_refused words options is none (command.Link steps) a = absurd (omega (arith, two_names 0 (codes "build") (codes "link") words options a.0 is a.1))
+
+pub link_refused : (words options : List (List ℕ)) → words ≡ codes "link" ∷ options → ((steps : ℕ) → AreSteps options steps → ⊥) → (command : Command) → AreWords words command → ⊥
+link_refused words options is none (command.List opts) a = absurd (omega (arith, two_names 2 (codes "link") (codes "list") words options a.0 is a.1))
+link_refused words options is none (command.Build opts) a = absurd (omega (arith, two_names 0 (codes "link") (codes "build") words options a.0 is a.1))
+link_refused words options is none (command.Link steps) a = none steps (subst (λ os. AreSteps os steps) (same_options (codes "link") words options a.0 is a.1) a.2)
 
 abbrev pub texts : List (Bor (List ℕ)) → List (List ℕ)
 texts words = map (λ w. w.now) words

@@ -1,5 +1,5 @@
 -- Numbers of options: a text is one where it begins with a digit but zero, and is read as one within the limit.
-use Rattle.std.proofs.Common.{◌≡◌, ℕ, zero, suc, ◌^◌, ◌<◌, ◌≤◌, List, length, get_or, Ok, Result, true, sym, ap, ◌∙◌, subst, arith}
+use Rattle.std.proofs.Common.{◌≡◌, ℕ, zero, suc, ◌^◌, ◌<◌, ◌≤◌, List, length, get_or, Ok, Result, true, sym, ap, ◌∙◌, subst, arith, codes}
 use Rattle.std.specs.Int.{IsInRange}
 use Rattle.std.specs.Result.{OkIff}
 use Rattle.std.specs.List.{list_all}
@@ -8,7 +8,7 @@ use Rattle.std.specs.Fmt.{decimal}
 use Rattle.std.specs.Str.Parse.{digits_value, ParsesUnsigned}
 use Rattle.std.proofs.lemmas.Fmt.{decimal_digit, first_decimal, decimal_nonempty, digits_decimal, parse-decimal, decimal-digits_value}
 use Rattle.std.proofs.lemmas.Str.Parse.{digit_at, parse_plain}
-use Rattle.mm_tool.specs.WordReading.{IsNumber}
+use Rattle.mm_tool.specs.WordReading.{IsNumber, IsCount}
 use Rattle.mm_lex.proofs.LexNumberLemmas.{digits_model}
 
 -- a number from 1 begins with a digit but zero
@@ -38,3 +38,11 @@ read_number {E} most n digits r parses begins is within =
     let writes : decimal (digits_value 10 digits) ≡ digits = decimal-digits_value digits_model digits parts.0.0 parts.0.1 (λ lead. absurd (omega (arith, begins.0, lead))) (omega (arith, parts.0.2)) in
     let same : digits ≡ decimal n = sym writes ∙ ap decimal (sym parts.1) in
     (same, not_zero n digits same begins.0, within)
+
+-- a count is 0 or a number from 1
+pub zero_counts : (most : ℕ) (digits : List ℕ) → digits ≡ codes "0" → IsCount most digits 0
+zero_counts most digits is = (is ∙ sym (decimal_digit 0 (omega arith)), omega arith)
+
+pub counts_from_one : (most n : ℕ) (digits : List ℕ) → IsCount most digits n → (digits ≡ codes "0" → ⊥) → IsNumber most digits n
+counts_from_one most zero digits is other = absurd (other (is.0 ∙ decimal_digit 0 (omega arith)))
+counts_from_one most (suc n) digits is other = (is.0, omega arith, is.1)

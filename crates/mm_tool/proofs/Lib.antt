@@ -6,4 +6,9 @@ pub mod Reports
 pub mod SortedLines
 pub mod TypeTextLemmas
 pub mod NamedPrograms
+pub mod OneRun
 pub mod Verdicts
+pub mod CommandLimits
+pub mod CompleteItems
+pub mod Building
+pub mod BuiltRuns

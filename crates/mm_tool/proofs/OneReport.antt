@@ -25,11 +25,9 @@ use Rattle.mm_tool.specs.Report.{line, Means, IsShown, SaysTooLong, IsVerdict, I
 use Rattle.mm_tool.proofs.CommandLines.{command_one}
 use Rattle.mm_tool.proofs.Meanings.{meaning_one}
 use Rattle.mm_tool.proofs.NamedPrograms.{means_names, members_in}
+use Rattle.mm_tool.proofs.OneRun.{link_answer_one}
+use Rattle.mm_tool.proofs.Reports.{Same}
 use Rattle.mm_emit.proofs.OneOrder.{sorted_one}
-
--- one status and one output
-abbrev pub Same : ℕ → ℕ → List ℕ → List ℕ → Type 0
-Same s t a b = (s ≡ t) × (a ≡ b)
 
 -- the items of what a text means have symbols of their own
 own_symbols : (text : List ℕ) (p : Program) (opts : Opts) (items : List Item) → Means text p → IsAccepted p opts items → HaveOwnSymbols p items
@@ -52,7 +50,7 @@ shown_one product.Objects text p opts s t a b m one other =
     let items = one_listing p opts one.items other.items one.accepted other.accepted in
     let own = own_symbols text p opts one.items m one.accepted in
     let objects = emission_one p one.items other.items own items one.shown.objects other.shown.objects one.shown.are other.shown.are in
-    (one.status_is ∙ sym other.status_is, one.shown.text ∙ ap objects_text objects ∙ sym other.shown.text)
+    (one.status_is ∙ sym other.status_is, one.shown.text.text.is ∙ ap objects_text objects ∙ sym other.shown.text.text.is)
 
 long_one : (p : Program) (opts : Opts) (s t : ℕ) (a b : List ℕ) → SaysTooLong p opts s a → SaysTooLong p opts t b → Same s t a b
 long_one p opts s t a b one other =
@@ -82,6 +80,7 @@ answer_one product text opts s t a b (inr one) (inr other) = (one.status_is ∙ 
 answers_one : (command : Command) (text : List ℕ) (s t : ℕ) (a b : List ℕ) → Answers command text s a → Answers command text t b → Same s t a b
 answers_one (command.List opts) text s t a b one other = answer_one product.Listing text opts s t a b one other
 answers_one (command.Build opts) text s t a b one other = answer_one product.Objects text opts s t a b one other
+answers_one (command.Link steps) text s t a b one other = link_answer_one text steps s t a b one other
 
 pub report_one : (words : List (List ℕ)) (text : List ℕ) (s t : ℕ) (a b : List ℕ) → IsReport words text s a → IsReport words text t b → Same s t a b
 report_one words text s t a b (inl one) (inl other) =

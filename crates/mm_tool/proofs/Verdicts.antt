@@ -1,7 +1,6 @@
 -- What is told of a fault of collection is the verdict on the program.
 use Rattle.std.proofs.Common.{◌≡◌, ℕ, List, ◌++◌, Result, Ok, Err, IfOk, inl, inr, ◌∙◌, ap, codes}
 use Rattle.std.specs.Prelude.{decimal}
-use Rattle.mm_terms.specs.declared.item.Item.{Item}
 use Rattle.mm_collect.specs.declared.fault.CollectFault.{CollectFault}
 use Rattle.mm_collect.specs.declared.fault.CollectFault.TheVariants as fault
 use Rattle.mm_collect.specs.declared.program.Opts.{Opts}

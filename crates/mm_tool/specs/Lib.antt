@@ -1,4 +1,5 @@
 pub mod Listing
+pub mod Observed
 pub mod Report
 pub mod TypeText
 pub mod WordReading

@@ -1,5 +1,5 @@
 -- The answer to a command line and a text: the status, and the bytes that are written.
-use Rattle.std.specs.Prelude.{◌≡◌, ◌≢◌, ℕ, ◌⊎◌, List, [], ◌∷◌, ◌++◌, codes, decimal}
+use Rattle.std.specs.Prelude.{◌≡◌, ◌≢◌, ℕ, ◌⊎◌, List, [], ◌∷◌, ◌++◌, Err, codes, decimal}
 use Rattle.std.specs.declared.option.Option.{Option}
 use Rattle.std.specs.Io.KnownBytes.{Appends}
 use Rattle.mm_outside.specs.Whole.{WritesFront}
@@ -12,8 +12,14 @@ use Rattle.mm_collect.specs.Verdict.{IsAccepted, IsTooMany, IsTooLong}
 use Rattle.mm_parse.specs.declared.ast.Crate.{Crate}
 use Rattle.mm_lex.specs.declared.token.Token.{Token}
 use Rattle.mm_objects.specs.declared.objects.Objects.{Objects}
-use Rattle.mm_objects.specs.Emitted.{AreObjectsOf, whole_crate}
-use Rattle.mm_objects.specs.ObjectText.{objects_text}
+use Rattle.mm_objects.specs.Emitted.{AllResolve, AreObjectsOf, whole_crate}
+use Rattle.mm_objects.specs.ObjectForms.{IsUnitText}
+use Rattle.mm_emit.specs.Faithful.{RunAs}
+use Rattle.mm_machines.specs.Image.{observed_image}
+use Rattle.mm_link.specs.declared.fault.LinkFault.{LinkFault}
+use Rattle.mm_link.specs.declared.fault.LinkFault.TheVariants as unlinked
+use Rattle.mm_link.specs.declared.linked.Linked.{Linked}
+use Rattle.mm_link.specs.Linking as linking
 use Rattle.mm_tool.specs.declared.answer.Product.{Product}
 use Rattle.mm_tool.specs.declared.answer.Product.TheVariants as product
 use Rattle.mm_tool.specs.declared.words.Command.{Command}
@@ -22,6 +28,7 @@ use Rattle.mm_lex.specs.LexText.{AreTokensOf}
 use Rattle.mm_parse.specs.Grammar as grammar
 use Rattle.mm_load.specs.Meaning.{IsProgram}
 use Rattle.mm_tool.specs.Listing.{IsListing}
+use Rattle.mm_tool.specs.Observed.{obs_text, obs_status}
 use Rattle.mm_tool.specs.Words.{AreWords, IsNoCommand}
 
 -- A text means a program: its tokens spell a tree, and the tree means the program.
@@ -32,15 +39,23 @@ pub record Means (text : List ℕ) (program : Program) : Type 0 where
   pub spelled : grammar.text tree tokens
   pub loaded : IsProgram tree program
 
+-- some text means the program
+pub record IsMeant (program : Program) : Type 0 where
+  pub text : List ℕ
+  pub means : Means text program
+
 -- a line for a person, ended by LF
 abbrev pub line : List ℕ → List ℕ
 line text = text ++ 10 ∷ []
 
--- the output is the text of objects of the items, in one unit
+-- The output is the text of objects of the items, in one unit. Each reference in them names a definition of the item that
+-- is used there. They are linked, and after any number of steps what is seen of their image is what is seen of the program
 pub record IsObjectsOf (p : Program) (items : List Item) (output : List ℕ) : Type 0 where
   pub objects : Objects
   pub are : AreObjectsOf p (whole_crate p items ∷ []) objects
-  pub text : output ≡ objects_text objects
+  pub text : IsUnitText output objects
+  pub references : AllResolve p items objects.units
+  pub runs : RunAs p objects
 
 -- what is written of the items of a program
 abbrev pub Shows : Product → Program → List Item → List ℕ → Type 0
@@ -95,6 +110,48 @@ pub record IsJudged (product : Product) (text : List ℕ) (opts : Opts) (status 
 abbrev pub IsAnswer : Product → List ℕ → Opts → ℕ → List ℕ → Type 0
 IsAnswer product text opts status output = IsJudged product text opts status output ⊎ IsBadText text status output
 
+-- ---- objects that are linked and run
+
+-- what is told of a fault of linking
+abbrev pub TellsUnlinked : LinkFault → List ℕ → Type 0
+TellsUnlinked (unlinked.Double symbol first second) output = output ≡ line (codes "error: symbol " ++ symbol ++ codes " defined twice, in " ++ first ++ codes " and " ++ second)
+TellsUnlinked (unlinked.Undefined unit symbol) output = output ≡ line (codes "error: undefined symbol " ++ symbol ++ codes " in unit " ++ unit)
+TellsUnlinked unlinked.NoMain output = output ≡ line (codes "error: no main")
+TellsUnlinked unlinked.NoMemory output = ⊥
+
+-- the objects are not linked
+pub record IsUnlinked (objects : Objects) (status : ℕ) (output : List ℕ) : Type 0 where
+  pub status_is : status ≡ 9
+  pub fault : LinkFault
+  pub verdict : linking.IsVerdict objects (Err fault)
+  pub told : TellsUnlinked fault output
+
+-- the objects are linked, and what is seen of their run for so many steps is told
+pub record IsObserved (objects : Objects) (steps status : ℕ) (output : List ℕ) : Type 0 where
+  pub image : Linked
+  pub linked : linking.IsLinked objects image
+  pub status_is : status ≡ obs_status (observed_image image.objects.units image.main steps).ended
+  pub output_is : output ≡ obs_text (observed_image image.objects.units image.main steps)
+
+abbrev pub IsRun : Objects → ℕ → ℕ → List ℕ → Type 0
+IsRun objects steps status output = IsObserved objects steps status output ⊎ IsUnlinked objects status output
+
+-- the bytes are no object text
+pub record IsBadObjects (bytes : List ℕ) (status : ℕ) (output : List ℕ) : Type 0 where
+  pub status_is : status ≡ 8
+  pub none : (objects : Objects) → IsUnitText bytes objects → ⊥
+  pub output_is : output ≡ line (codes "error: bad objects")
+
+-- the bytes are the text of objects, which are linked and run
+pub record IsLinkedText (bytes : List ℕ) (steps status : ℕ) (output : List ℕ) : Type 0 where
+  pub objects : Objects
+  pub text : IsUnitText bytes objects
+  pub run : IsRun objects steps status output
+
+-- the answer to bytes that are to be linked
+abbrev pub IsLinkAnswer : List ℕ → ℕ → ℕ → List ℕ → Type 0
+IsLinkAnswer bytes steps status output = IsLinkedText bytes steps status output ⊎ IsBadObjects bytes status output
+
 -- the words are no command line
 pub record IsBadWords (words : List (List ℕ)) (status : ℕ) (output : List ℕ) : Type 0 where
   pub status_is : status ≡ 2
@@ -105,6 +162,7 @@ pub record IsBadWords (words : List (List ℕ)) (status : ℕ) (output : List �
 abbrev pub Answers : Command → List ℕ → ℕ → List ℕ → Type 0
 Answers (command.List opts) text = IsAnswer product.Listing text opts
 Answers (command.Build opts) text = IsAnswer product.Objects text opts
+Answers (command.Link steps) text = IsLinkAnswer text steps
 
 pub record IsDone (words : List (List ℕ)) (text : List ℕ) (status : ℕ) (output : List ℕ) : Type 0 where
   pub command : Command
@@ -115,9 +173,13 @@ pub record IsDone (words : List (List ℕ)) (text : List ℕ) (status : ℕ) (ou
 abbrev pub IsReport : List (List ℕ) → List ℕ → ℕ → List ℕ → Type 0
 IsReport words text status output = IsDone words text status output ⊎ IsBadWords words status output
 
+-- the statuses of an answer
+abbrev pub IsAnswerStatus : ℕ → Type 0
+IsAnswerStatus status = (status ≡ 0) ⊎ (status ≡ 3) ⊎ (status ≡ 5) ⊎ (status ≡ 6) ⊎ (status ≡ 8) ⊎ (status ≡ 9) ⊎ (status ≡ 10) ⊎ (status ≡ 11)
+
 -- the statuses that there are
 abbrev pub IsStatus : ℕ → Type 0
-IsStatus status = (status ≡ 0) ⊎ (status ≡ 2) ⊎ (status ≡ 3) ⊎ (status ≡ 5) ⊎ (status ≡ 6) ⊎ (status ≡ 20) ⊎ (status ≡ 21) ⊎ (status ≡ 22) ⊎ (status ≡ 23)
+IsStatus status = (status ≡ 2) ⊎ (status ≡ 20) ⊎ (status ≡ 21) ⊎ (status ≡ 22) ⊎ (status ≡ 23) ⊎ IsAnswerStatus status
 
 -- the status is a report's own: no device failed, memory was found, and the text was not too long
 abbrev pub IsSettled : ℕ → Type 0

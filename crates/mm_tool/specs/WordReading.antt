@@ -7,6 +7,10 @@ use Rattle.mm_tool.specs.Words.{option_words, IsUpTo}
 abbrev pub IsNumber : ℕ → List ℕ → ℕ → Type 0
 IsNumber most digits n = (digits ≡ decimal n) × (1 ≤ n) × (n ≤ most)
 
+-- the digits write the number, which is one from 0 to the greatest
+abbrev pub IsCount : ℕ → List ℕ → ℕ → Type 0
+IsCount most digits n = (digits ≡ decimal n) × (n ≤ most)
+
 -- the word is the option with this name and this number, from 1 to the greatest
 abbrev pub IsOption : List ℕ → ℕ → List ℕ → ℕ → Type 0
 IsOption name most word n = (word ≡ name ++ decimal n) × (1 ≤ n) × (n ≤ most)

@@ -27,13 +27,31 @@ pub record AreLimits (options : List (List ℕ)) (opts : Opts) : Type 0 where
   pub items_is : IsUpTo 131072 items
   pub is : opts ≡ record { length = unwrap_or length 512; items = unwrap_or items 20000 }
 
--- words = "list" limits | "build" limits
+-- the option of a run: the greatest number of its steps, or else the default
+pub record AreSteps (options : List (List ℕ)) (steps : ℕ) : Type 0 where
+  pub given : Option ℕ
+  pub are : options ≡ option_word (codes "--steps=") given
+  pub within : IfSome given (λ n. n ≤ 10000000)
+  pub is : steps ≡ unwrap_or given 1000000
+
+-- words = "list" limits | "build" limits | "link" steps
 abbrev pub AreWords : List (List ℕ) → Command → Type 0
 AreWords words (command.List opts) = (options : List (List ℕ)) × (words ≡ codes "list" ∷ options) × AreLimits options opts
 AreWords words (command.Build opts) = (options : List (List ℕ)) × (words ≡ codes "build" ∷ options) × AreLimits options opts
+AreWords words (command.Link steps) = (options : List (List ℕ)) × (words ≡ codes "link" ∷ options) × AreSteps options steps
 
 abbrev pub IsCommand : List (List ℕ) → Type 0
 IsCommand words = (command : Command) × AreWords words command
 
+-- some words mean the command
+abbrev pub IsWorded : Command → Type 0
+IsWorded command = (words : List (List ℕ)) × AreWords words command
+
 abbrev pub IsNoCommand : List (List ℕ) → Type 0
 IsNoCommand words = (command : Command) → AreWords words command → ⊥
+
+-- the greatest text that is read for a command, in bytes
+abbrev pub text_limit : Command → ℕ
+text_limit (command.List opts) = 4194304
+text_limit (command.Build opts) = 4194304
+text_limit (command.Link steps) = 67108864

@@ -1,6 +1,7 @@
 ghost use Rattle.std.specs.Prelude.{◌≡◌, ℕ, List, ◌≤◌, length, IfOk};
 ghost use Rattle.mm_collect.specs.declared.program.Program.{Program};
-ghost use Rattle.mm_tool.specs.Report.{Means, IsObjectsOf, Shows, IsVerdict, IsAnswer};
+ghost use Rattle.mm_emit.specs.Complete.{IsComplete};
+ghost use Rattle.mm_tool.specs.Report.{Means, IsMeant, IsObjectsOf, Shows, IsVerdict, IsAnswer};
 
 use crate::listing::list_items;
 use crate::refusal::refuse;
@@ -50,7 +51,9 @@ pub fn one_meaning()
 {}
 
 /// The text of objects of the items.
+#[tactic(auto, using(crate::proofs::Building::objects_built))]
 fn build(alloc: Global, p: &Program, items: &[Item]) -> Result<Vec<u8>, NoMemory>
+    requires { IsComplete p.now items.now }
     ensures { IfOk result (λ output. IsObjectsOf p.now items.now output.items) }
 {
     let objects = emit_one(alloc, p, items)?;
@@ -59,6 +62,7 @@ fn build(alloc: Global, p: &Program, items: &[Item]) -> Result<Vec<u8>, NoMemory
 
 /// What is asked for, of the items.
 fn show(alloc: Global, product: Product, p: &Program, items: &[Item]) -> Result<Vec<u8>, NoMemory>
+    requires { IsComplete p.now items.now }
     ensures { IfOk result (λ output. Shows product p.now items.now output.items) }
 {
     match product {
@@ -69,6 +73,7 @@ fn show(alloc: Global, product: Product, p: &Program, items: &[Item]) -> Result<
 
 /// What is asked for, of the items of an accepted program.
 fn accept(alloc: Global, product: Product, p: &Program, items: &[Item]) -> Result<Answer, NoMemory>
+    requires { IsComplete p.now items.now }
     ensures status { IfOk result (λ answer. answer.status ≡ 0) }
     ensures shown { IfOk result (λ answer. Shows product p.now items.now answer.output.items) }
 {
@@ -80,6 +85,8 @@ fn accept(alloc: Global, product: Product, p: &Program, items: &[Item]) -> Resul
 
 /// The verdict on a program: what is asked for, of its items, or that there are too many, or that one is too long.
 fn judge(alloc: Global, product: Product, p: &Program, opts: &Opts) -> Result<Answer, NoMemory>
+    requires meant { IsMeant p.now }
+    requires short { opts.now.length ≤ 2048 }
     ensures { IfOk result (λ answer. IsVerdict product p.now opts.now answer.status answer.output.items) }
 {
     match collect(alloc, p, opts) {
@@ -88,14 +95,17 @@ fn judge(alloc: Global, product: Product, p: &Program, opts: &Opts) -> Result<An
     }
 }
 
-/// The answer to a text of which a product is asked, under these options.
+/// The answer to a text of which a product is asked, under these options. The text has at most [`TEXT_LIMIT`](crate::TEXT_LIMIT)
+/// bytes, and items are to be no longer than 2,048, as types of symbols nest no deeper than 4,096.
+#[tactic(auto, using(crate::proofs::Building::meant))]
 pub fn answer_to(
     alloc: Global,
     product: Product,
     text: &[u8],
     opts: &Opts,
 ) -> Result<Answer, NoMemory>
-    requires { length text.now ≤ 4194304 }
+    requires within { length text.now ≤ 4194304 }
+    requires short { opts.now.length ≤ 2048 }
     ensures { IfOk result (λ answer. IsAnswer product text.now opts.now answer.status answer.output.items) }
 {
     match read_program(alloc, text) {

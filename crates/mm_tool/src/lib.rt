@@ -1,22 +1,25 @@
 //! The program `mono` as a library: its text language, what it refuses, and what it prints.
 //!
-//! A text goes through [`lex`](lex::lex), [`parse`](parse::parse) and [`load`](load::load) to a program, and
-//! [`tool_one`] does with it what the words ask for.
+//! A text goes through [`lex`](lex::lex), [`parse`](parse::parse) and [`load`](load::load) to a program, a text of
+//! objects through [`answer_link`] to a run, and [`tool_one`] does what the words ask for.
 #![tactic(auto)]
 
 mod answer;
 pub mod laws;
 mod limits;
+mod linking;
 mod listing;
 mod numbers;
+mod observation;
 mod refusal;
 mod tool;
 mod type_texts;
 mod words;
 
 pub use answer::{Answer, Product, answer_to, one_meaning, read_program};
+pub use linking::answer_link;
 pub use listing::{item_text, list_items};
-pub use tool::{TEXT_LIMIT, one_report, tool_one};
+pub use tool::{OBJECTS_LIMIT, TEXT_LIMIT, one_report, tool_one};
 pub use type_texts::type_text;
 pub use words::{Command, one_command, read_words};
 

@@ -1,6 +1,6 @@
 ghost use Rattle.std.specs.Prelude.{◌≡◌, ℕ, true, false, slice_index, IfSome};
 ghost use Rattle.std.specs.Int.{IsInRange};
-ghost use Rattle.mm_tool.specs.WordReading.{IsNumber};
+ghost use Rattle.mm_tool.specs.WordReading.{IsCount, IsNumber};
 
 /// Whether the text begins with a digit that is not zero.
 fn begins_as_number(text: &str) -> bool
@@ -22,4 +22,15 @@ pub fn number(digits: &str, most: u32) -> Option<u32>
         Ok(n) if n <= most => Some(n),
         _ => None,
     }
+}
+
+/// The number that the digits write, from 0 to the greatest.
+pub fn count(digits: &str, most: u32) -> Option<u32>
+    ensures some { IfSome result (IsCount most digits.now) }
+    ensures none { result ≡ None → (n : ℕ) → IsCount most digits.now n → ⊥ }
+{
+    if digits == "0" {
+        return Some(0);
+    }
+    number(digits, most)
 }

@@ -82,13 +82,22 @@ fn words_are_a_command_and_options(rt: HostRuntime) -> Result<(), Fail> {
         items: 20_000,
     });
     assert_eq!(rt; read_words(&["build", "--length=7"]), Some(build));
+    let links: [(&[&str], u32); 4] = [
+        (&["link"], 1_000_000),
+        (&["link", "--steps=0"], 0),
+        (&["link", "--steps=20"], 20),
+        (&["link", "--steps=10000000"], 10_000_000),
+    ];
+    for (words, steps) in links {
+        assert_eq!(rt; read_words(words), Some(Command::Link(steps)), "{words:?}");
+    }
     Ok(())
 }
 
 #[test]
 fn other_words_are_bad(rt: HostRuntime) -> Result<(), Fail> {
     let alloc = rt.alloc();
-    let rows: [&[&str]; 34] = [
+    let rows: [&[&str]; 42] = [
         &[],
         &[""],
         &["frob"],
@@ -123,6 +132,14 @@ fn other_words_are_bad(rt: HostRuntime) -> Result<(), Fail> {
         &["list", "--length=0"],
         &["list", "--length=2049"],
         &["list", "--workers=1"],
+        &["list", "--steps=1"],
+        &["link", "--items=1"],
+        &["link", "--steps"],
+        &["link", "--steps="],
+        &["link", "--steps=00"],
+        &["link", "--steps=01"],
+        &["link", "--steps=10000001"],
+        &["link", "--steps=1", "--steps=1"],
     ];
     for words in rows {
         let mut source = BytesSource::new(ONE_FUNCTION.to_vec(alloc)?, 5, Vec::new(alloc));
@@ -291,6 +308,74 @@ fn bad_texts_are_refused(rt: HostRuntime) -> Result<(), Fail> {
             b"error: bad text\n".as_slice(),
             "{place}"
         );
+    }
+    Ok(())
+}
+
+#[test]
+fn objects_are_linked_and_run(rt: HostRuntime) -> Result<(), Fail> {
+    let head = "objects 1\nmain _MFN1a1mEIE\nunit a/a.stable\n";
+    let few: &[&str] = &["link", "--steps=2"];
+    let none: &[&str] = &["link", "--steps=0"];
+    let rows: [(&[&str], &str, u8, &str); 9] = [
+        (
+            &["link"],
+            "fn _MFN1a1mEIE External 0 1 1\nbb0\nprint 18446744073709551615\nprint 0\nreturn\nend\n",
+            0,
+            "18446744073709551615\n0\nreturned\n",
+        ),
+        (
+            &["link"],
+            "fn _MFN1a1mEIE External 0 1 1\nbb0\nprint 7\nunreachable\nend\n",
+            10,
+            "7\ntrap Unreachable\n",
+        ),
+        (
+            few,
+            "fn _MFN1a1mEIE External 0 1 1\nbb0\nprint 7\ngoto 0\nend\n",
+            11,
+            "7\nstill running\n",
+        ),
+        (
+            none,
+            "fn _MFN1a1mEIE External 0 1 1\nbb0\nreturn\nend\n",
+            11,
+            "still running\n",
+        ),
+        (
+            none,
+            "fn _MFN1a1mEIE External 0 1 1\nbb0\nreturn\n",
+            8,
+            "error: bad objects\n",
+        ),
+        (
+            none,
+            "fn _MFN1a1mEIE External 0 1 1\nbb0\nreturn\nfn _MFN1a1mEIE Internal 0 1 1\nbb0\nreturn\nend\n",
+            9,
+            "error: symbol _MFN1a1mEIE defined twice, in a/a.stable and a/a.stable\n",
+        ),
+        (
+            none,
+            "fn _MFN1a1nEIE External 0 1 1\nbb0\ncall _0 fn:_MFN1a1mEIE -> 0\nend\n",
+            9,
+            "error: undefined symbol _MFN1a1mEIE in unit a/a.stable\n",
+        ),
+        (
+            none,
+            "fn _MFN1a1mEIE Internal 0 1 1\nbb0\nreturn\nend\n",
+            9,
+            "error: no main\n",
+        ),
+        (none, "end\n", 9, "error: no main\n"),
+    ];
+    let alloc = rt.alloc();
+    for (words, defs, status, written) in rows {
+        let mut text = String::new(alloc);
+        text.push_str(head)?;
+        text.push_str(defs)?;
+        let (answered, output) = answer(alloc, words, text.as_bytes())?;
+        assert_eq!(rt; answered, status, "{defs}");
+        assert_eq!(rt; output.as_slice(), written.as_bytes(), "{defs}");
     }
     Ok(())
 }

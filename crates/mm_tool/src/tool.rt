@@ -2,17 +2,32 @@ ghost use Rattle.std.specs.Prelude.{◌≡◌, ◌≢◌, ◌⊎◌, ℕ, ◌≤
 ghost use Rattle.std.specs.Io.KnownBytes.{Appends, IsAtEnd, Keeps};
 ghost use Rattle.mm_outside.specs.Causes.{Rose};
 ghost use Rattle.mm_outside.specs.Whole.{GaveMore, GaveWithin, WritesFront};
-ghost use Rattle.mm_tool.specs.Report.{IsSettled, IsStatus, Answers, IsReport, Reports, ReportsFront};
-ghost use Rattle.mm_tool.specs.Words.{IsCommand, IsNoCommand};
+ghost use Rattle.mm_tool.specs.Report.{IsAnswerStatus, IsSettled, IsStatus, Answers, IsReport, Reports, ReportsFront};
+ghost use Rattle.mm_tool.specs.Words.{AreWords, IsCommand, IsNoCommand, IsWorded, text_limit};
+ghost use Rattle.mm_tool.specs.declared.words.Command.{Command};
 
 use crate::answer::{Answer, Product, answer_to};
+use crate::linking::answer_link;
 use crate::words::{Command, read_words};
 use mm_outside::{ReadRefusal, Sink, Source, put_all, read_all};
 use mm_terms::NoMemory;
 use std::alloc::Global;
 
-/// The greatest text that is read, in bytes.
+/// The greatest text of a program that is read, in bytes.
 pub const TEXT_LIMIT: usize = 4_194_304;
+
+/// The greatest text of objects that is read, in bytes.
+pub const OBJECTS_LIMIT: usize = 67_108_864;
+
+/// The greatest text that is read for a command, in bytes.
+fn limit_of(command: Command) -> usize
+    ensures { result ≡ text_limit command }
+{
+    match command {
+        Command::List(_) | Command::Build(_) => TEXT_LIMIT,
+        Command::Link(_) => OBJECTS_LIMIT,
+    }
+}
 
 /// Writes an output, and gives its status, or 21 where the sink fails.
 fn put<K: Sink>(sink: &mut K, status: u8, output: &[u8]) -> u8
@@ -28,28 +43,32 @@ fn put<K: Sink>(sink: &mut K, status: u8, output: &[u8]) -> u8
 }
 
 /// The answer to a command and a text.
+#[tactic(auto, using(crate::proofs::CommandLimits::list_short, crate::proofs::CommandLimits::build_short))]
 fn answer(alloc: Global, command: Command, text: &[u8]) -> Result<Answer, NoMemory>
-    requires { length text.now ≤ 4194304 }
+    requires worded { IsWorded command }
+    requires within { length text.now ≤ text_limit command }
     ensures answers { IfOk result (λ answer. Answers command text.now answer.status answer.output.items) }
-    ensures statuses { IfOk result (λ answer. (answer.status ≡ 0) ⊎ (answer.status ≡ 3) ⊎ (answer.status ≡ 5) ⊎ (answer.status ≡ 6)) }
+    ensures statuses { IfOk result (λ answer. IsAnswerStatus answer.status) }
 {
     match command {
         Command::List(opts) => answer_to(alloc, Product::Listing, text, &opts),
         Command::Build(opts) => answer_to(alloc, Product::Objects, text, &opts),
+        Command::Link(steps) => answer_link(alloc, text, steps),
     }
 }
 
 /// The answer to the text that a source has left, or the status of what failed.
 fn answer_of<S: Source>(alloc: Global, source: &mut S, command: Command) -> Result<Answer, u8>
+    requires { IsWorded command }
     ensures ok { IfOk result (λ answer. IfSome (S.left source.old) (λ text. Answers command text answer.status answer.output.items)) }
-    ensures statuses { IfOk result (λ answer. (answer.status ≡ 0) ⊎ (answer.status ≡ 3) ⊎ (answer.status ≡ 5) ⊎ (answer.status ≡ 6)) }
+    ensures statuses { IfOk result (λ answer. IsAnswerStatus answer.status) }
     ensures end { OnOk result (IsAtEnd (S.left source.new)) }
     ensures failures { IfErr result (λ status. (status ≡ 20) ⊎ (status ≡ 22) ⊎ (status ≡ 23)) }
     ensures fault { result ≡ Err 20 → Rose (S.faults source.old) (S.faults source.new) }
-    ensures long { result ≡ Err 23 → GaveMore TEXT_LIMIT (S.left source.old) (S.left source.new) }
-    ensures short { result ≢ Err 23 → GaveWithin TEXT_LIMIT (S.left source.old) (S.left source.new) }
+    ensures long { result ≡ Err 23 → GaveMore (text_limit command) (S.left source.old) (S.left source.new) }
+    ensures short { result ≢ Err 23 → GaveWithin (text_limit command) (S.left source.old) (S.left source.new) }
 {
-    let text = match read_all(alloc, source, TEXT_LIMIT) {
+    let text = match read_all(alloc, source, limit_of(command)) {
         Ok(text) => text,
         Err(ReadRefusal::ReadFault) => return Err(20),
         Err(ReadRefusal::TooLong) => return Err(23),
@@ -66,14 +85,22 @@ fn answer_of<S: Source>(alloc: Global, source: &mut S, command: Command) -> Resu
 /// | status | written | when |
 /// |---|---|---|
 /// | 0 | the listing, or the text of the objects | the text means a program within both limits |
+/// | 0 | the numbers that are printed, and `returned` | the objects are linked, and their run returns |
 /// | 2 | `error: bad words` | the words are no command line; nothing is read |
 /// | 3 | `error: bad text` | the text means no program |
 /// | 5 | `error: more than <N> items in crate <name>` | the program has more items than the limit |
 /// | 6 | `error: type length <n> in <path>` | else an item of the program calls an instance that is longer than the limit |
+/// | 8 | `error: bad objects` | the bytes are no text of objects |
+/// | 9 | `error: symbol <s> defined twice, in <unit> and <unit>` | two definitions of a symbol clash |
+/// | 9 | `error: undefined symbol <s> in unit <unit>` | else a reference names nothing |
+/// | 9 | `error: no main` | else no definition of the main symbol is open to every unit |
+/// | 10 | the numbers that are printed, and `trap <kind>` | the objects are linked, and their run traps |
+/// | 11 | the numbers that are printed, and `still running` | the objects are linked, and their run has not ended after so many steps |
 /// | 20 | nothing | the source failed |
 /// | 21 | a front of the output | the sink failed |
 /// | 22 | nothing | memory was wanting |
-/// | 23 | nothing | the text has more than [`TEXT_LIMIT`] bytes |
+/// | 23 | nothing | the text has more than [`TEXT_LIMIT`] bytes, or where it is linked, more than [`OBJECTS_LIMIT`] |
+#[tactic(auto, using(crate::proofs::CommandLimits::worded))]
 pub fn tool_one<S: Source, K: Sink>(
     alloc: Global,
     words: &[&str],
@@ -91,8 +118,8 @@ pub fn tool_one<S: Source, K: Sink>(
     ensures refused { IsNoCommand (map (λ w. w.now) words.now) → (result ≡ 2) ⊎ (result ≡ 21) }
     ensures read { result ≡ 20 → Rose (S.faults source.old) (S.faults source.new) }
     ensures write { result ≡ 21 → Rose (K.faults sink.old) (K.faults sink.new) }
-    ensures long { result ≡ 23 → GaveMore TEXT_LIMIT (S.left source.old) (S.left source.new) }
-    ensures short { result ≢ 23 → GaveWithin TEXT_LIMIT (S.left source.old) (S.left source.new) }
+    ensures long { (command : Command) → AreWords (map (λ w. w.now) words.now) command → result ≡ 23 → GaveMore (text_limit command) (S.left source.old) (S.left source.new) }
+    ensures short { (command : Command) → AreWords (map (λ w. w.now) words.now) command → result ≢ 23 → GaveWithin (text_limit command) (S.left source.old) (S.left source.new) }
 
     // What was read: all of the text, or nothing where the words are bad.
     ensures ended { IsCommand (map (λ w. w.now) words.now) → (result ≢ 20) × (result ≢ 22) × (result ≢ 23) → IsAtEnd (S.left source.new) }

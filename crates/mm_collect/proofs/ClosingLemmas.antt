@@ -9,10 +9,10 @@ use Rattle.indexmap.proofs.CallerLemmas.{Contains-insert_key}
 use Rattle.indexmap.specs.IndexSet.{insert_key, insert_all}
 use Rattle.mm_terms.specs.declared.item.Item.{Item}
 use Rattle.mm_terms.specs.Closure.{IsMember, AreMembers}
-use Rattle.mm_collect.specs.Finding.{firsts, AreInOrder}
+use Rattle.mm_program.specs.Finding.{firsts, AreInOrder}
 use Rattle.mm_terms.specs.Same.{same_item, items_equal}
 use Rattle.mm_terms.proofs.ClosureLemmas.{member_root, member_used, least}
-use Rattle.mm_collect.proofs.GrowthLemmas.{carried, in_front}
+use Rattle.mm_collect.proofs.GrowthLemmas.{carried, in_prefix}
 
 -- ---- inserting items one after another
 
@@ -43,7 +43,7 @@ no_shorter keys xs new claimed =
     omega (arith, lengths)
 
 pub stays : (keys xs : List Item) → All (Contains (insert_all same_item keys xs)) keys
-stays keys xs = let more = grown keys xs in subst (λ ks. All (Contains ks) keys) (sym more.1) (in_front keys more.0)
+stays keys xs = let more = grown keys xs in subst (λ ks. All (Contains ks) keys) (sym more.1) (in_prefix keys more.0)
 
 pub all_in : (keys xs : List Item) → All (Contains (insert_all same_item keys xs)) xs
 all_in keys [] = All-nil (Contains keys)
@@ -59,8 +59,8 @@ module _ {N : Type 0} (names : Item → List N) where
   pub named_more : (keys new : List Item) (next : ℕ) (x : Item) → next < length keys → get_or keys next x ≡ x → (xs : List Item) → new ≡ insert_all same_item keys xs → flat_map names (take (next + 1) new) ≡ flat_map names (take next keys) ++ names x
   named_more keys new next x within is xs claimed =
       let more = grown keys xs in
-      let front : take (next + 1) new ≡ take (next + 1) keys = ap (take (next + 1)) (claimed ∙ more.1) ∙ take-append-le (next + 1) keys more.0 (omega arith) in
-      ap (flat_map names) (front ∙ take_more keys next x within ∙ ap (λ y. take next keys ++ y ∷ []) is)
+      let prefix : take (next + 1) new ≡ take (next + 1) keys = ap (take (next + 1)) (claimed ∙ more.1) ∙ take-append-le (next + 1) keys more.0 (omega arith) in
+      ap (flat_map names) (prefix ∙ take_more keys next x within ∙ ap (λ y. take next keys ++ y ∷ []) is)
       ∙ flat_map-append names (take next keys) (x ∷ [])
       ∙ ap (λ last. flat_map names (take next keys) ++ last) (append-nil (names x))
 
@@ -114,14 +114,14 @@ module _ (roots : List Item) (uses : Item → List Item) where
       let kept : All (Contains new) keys = subst (λ ks. All (Contains ks) keys) (sym claimed) (stays keys (uses x)) in
       let used : All (Contains new) (uses x) = subst (λ ks. All (Contains ks) (uses x)) (sym claimed) (all_in keys (uses x)) in
       let more = grown keys (uses x) in
-      let front : take (next + 1) new ≡ take (next + 1) keys = ap (take (next + 1)) (claimed ∙ more.1) ∙ take-append-le (next + 1) keys more.0 (omega arith) in
+      let prefix : take (next + 1) new ≡ take (next + 1) keys = ap (take (next + 1)) (claimed ∙ more.1) ∙ take-append-le (next + 1) keys more.0 (omega arith) in
       let Closed : Item → Type 0 = λ y. All (Contains new) (uses y) in
       let before : All Closed (take next keys) = All-weaker (λ y. All (Contains keys) (uses y)) Closed (λ y has. carried (Contains new) keys (uses y) kept has) (take next keys) closing.closed in
       record {
         started = carried (Contains new) keys roots kept closing.started;
         each = members_still keys new next x closing within is among;
         order = order_more keys new next x closing.order within is claimed;
-        closed = All-same Closed (take (next + 1) new) (take (next + 1) keys) front (All-more Closed keys next x within before (subst Closed (sym is) used));
+        closed = All-same Closed (take (next + 1) new) (take (next + 1) keys) prefix (All-more Closed keys next x within before (subst Closed (sym is) used));
       }
 
   -- all are scanned: the items are the members

@@ -9,8 +9,8 @@ use Rattle.std.proofs.lemmas.List.Elements.{All-contains, Contains-append_left, 
 use Rattle.mm_terms.specs.declared.item.Item.{Item}
 use Rattle.mm_terms.specs.Closure.{IsMember, AreMembers}
 use Rattle.mm_terms.proofs.ClosureLemmas.{least, no_longer}
-use Rattle.mm_collect.specs.Finding.{firsts, AreInOrder}
-use Rattle.mm_collect.proofs.GrowthLemmas.{in_front}
+use Rattle.mm_program.specs.Finding.{firsts, AreInOrder}
+use Rattle.mm_collect.proofs.GrowthLemmas.{in_prefix}
 use Rattle.mm_collect.proofs.ClosingLemmas.{grown, insert_all-append, all_in}
 use Rattle.mm_collect.proofs.VerdictLemmas.{noted_in}
 
@@ -20,16 +20,16 @@ empty (x ∷ xs) none = absurd (omega (arith, none))
 
 module _ (roots : List Item) (uses : Item → List Item) where
   -- what the roots are and the first k items use
-  abbrev front : List Item → ℕ → List Item
-  front items k = firsts (roots ++ flat_map uses (take k items))
+  abbrev prefix : List Item → ℕ → List Item
+  prefix items k = firsts (roots ++ flat_map uses (take k items))
 
   -- it stands before all others
-  begins : (items : List Item) (k : ℕ) → AreInOrder roots uses items → (more : List Item) × (items ≡ front items k ++ more)
+  begins : (items : List Item) (k : ℕ) → AreInOrder roots uses items → (more : List Item) × (items ≡ prefix items k ++ more)
   begins items k order =
       let some : List Item = flat_map uses (take k items) in
       let rest : List Item = flat_map uses (drop k items) in
       let both : flat_map uses items ≡ some ++ rest = ap (flat_map uses) (sym (take-append-drop k items)) ∙ flat_map-append uses (take k items) (drop k items) in
-      let more = grown (front items k) rest in (
+      let more = grown (prefix items k) rest in (
         more.0,
         order
             ∙ ap (λ all. firsts (roots ++ all)) both
@@ -39,15 +39,15 @@ module _ (roots : List Item) (uses : Item → List Item) where
       )
 
   -- where there are no more than k of it, these are all
-  ends : (items : List Item) (k : ℕ) → AreMembers roots uses items → AreInOrder roots uses items → length (front items k) ≤ k → items ≡ front items k
+  ends : (items : List Item) (k : ℕ) → AreMembers roots uses items → AreInOrder roots uses items → length (prefix items k) ≤ k → items ≡ prefix items k
   ends items k members order few =
       let some : List Item = flat_map uses (take k items) in
-      let first : List Item = front items k in
+      let first : List Item = prefix items k in
       let more = begins items k order in
       let named : All (Contains first) (roots ++ some) = all_in [] (roots ++ some) in
       let count : k ≡ length first + (k - length first) = omega (arith, few) in
       let seam : take k items ≡ first ++ take (k - length first) more.0 = (λ i. take (count i) (more.1 i)) ∙ take-append-add first more.0 (k - length first) in
-      let early : All (Contains (take k items)) first = subst (λ ts. All (Contains ts) first) (sym seam) (in_front first (take (k - length first) more.0)) in
+      let early : All (Contains (take k items)) first = subst (λ ts. All (Contains ts) first) (sym seam) (in_prefix first (take (k - length first) more.0)) in
       let all : (x : Item) → IsMember roots uses x → Contains first x =
       least roots uses (Contains first)
       (λ x root. All-contains (Contains first) (roots ++ some) x named (Contains-append_left roots some x root))
@@ -60,8 +60,8 @@ module _ (roots : List Item) (uses : Item → List Item) where
   module _ (items others : List Item) (members : AreMembers roots uses items) (too : AreMembers roots uses others) (order : AreInOrder roots uses items) (same : AreInOrder roots uses others) where
     one_more : (k : ℕ) → take k items ≡ take k others → (take (suc k) items ≡ take (suc k) others) ⊎ (items ≡ others)
     one_more k so_far =
-        let first : List Item = front items k in
-        let fronts : first ≡ front others k = ap (λ ts. firsts (roots ++ flat_map uses ts)) so_far in
+        let first : List Item = prefix items k in
+        let prefixes : first ≡ prefix others k = ap (λ ts. firsts (roots ++ flat_map uses ts)) so_far in
         let a = begins items k order in
         let b = begins others k same in
         ⊎_elim
@@ -69,9 +69,9 @@ module _ (roots : List Item) (uses : Item → List Item) where
         ap (take (suc k)) a.1
         ∙ take-append-le (suc k) first a.0 within
         ∙ sym (take-append-le (suc k) first b.0 within)
-        ∙ ap (λ ts. take (suc k) (ts ++ b.0)) fronts
+        ∙ ap (λ ts. take (suc k) (ts ++ b.0)) prefixes
         ∙ ap (take (suc k)) (sym b.1)))
-        (λ few. inr (ends items k members order few ∙ fronts ∙ sym (ends others k too same (subst (λ ts. length ts ≤ k) fronts few))))
+        (λ few. inr (ends items k members order few ∙ prefixes ∙ sym (ends others k too same (subst (λ ts. length ts ≤ k) prefixes few))))
         (cases_lt k (length first))
 
     alike : (k : ℕ) → (take k items ≡ take k others) ⊎ (items ≡ others)

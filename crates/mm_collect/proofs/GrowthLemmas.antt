@@ -10,8 +10,8 @@ use Rattle.mm_terms.specs.Same.{same_item}
 pub carried : (P : Item → Type 0) (xs ys : List Item) → All P xs → All (Contains xs) ys → All P ys
 carried P xs ys holds from = All-weaker (Contains xs) P (λ x has. All-contains P xs x holds has) ys from
 
-pub in_front : (xs ys : List Item) → All (Contains (xs ++ ys)) xs
-in_front xs ys = All-weaker (Contains xs) (Contains (xs ++ ys)) (λ x. Contains-append_left xs ys x) xs (All-contains_itself xs)
+pub in_prefix : (xs ys : List Item) → All (Contains (xs ++ ys)) xs
+in_prefix xs ys = All-weaker (Contains xs) (Contains (xs ++ ys)) (λ x. Contains-append_left xs ys x) xs (All-contains_itself xs)
 
 pub behind : (xs ys : List Item) → All (Contains (xs ++ ys)) ys
 behind xs ys = All-weaker (Contains ys) (Contains (xs ++ ys)) (λ y. Contains-append_right xs ys y) ys (All-contains_itself ys)
@@ -22,4 +22,4 @@ inserted keys x = by (list_any (same_item x) keys)
   where
     by : (b : Bool) → All (Contains (x ∷ keys)) (cond b keys (keys ++ x ∷ []))
     by true = behind (x ∷ []) keys
-    by false = All-push (Contains (x ∷ keys)) keys x (behind (x ∷ []) keys) (All-contains (Contains (x ∷ keys)) (x ∷ []) x (in_front (x ∷ []) keys) (0, lit< tt, refl))
+    by false = All-push (Contains (x ∷ keys)) keys x (behind (x ∷ []) keys) (All-contains (Contains (x ∷ keys)) (x ∷ []) x (in_prefix (x ∷ []) keys) (0, lit< tt, refl))

@@ -13,31 +13,16 @@ use Rattle.mm_terms.specs.declared.tree.Tree.{Tree}
 use Rattle.mm_terms.specs.Closure.{IsMember}
 use Rattle.mm_terms.specs.Substitution.{subst as put_in, subst-below, IsFormed-subst}
 use Rattle.mm_terms.proofs.ClosureLemmas.{least}
-use Rattle.mm_collect.specs.declared.program.Program.{Program}
-use Rattle.mm_collect.specs.declared.program.Function.{Function}
-use Rattle.mm_collect.specs.declared.program.Call.{Call}
-use Rattle.mm_collect.specs.declared.program.End.{End}
-use Rattle.mm_collect.specs.declared.program.End.TheVariants as end
-use Rattle.mm_collect.specs.Roots.{is_generic, is_root, is_exported, is_named, generic_calls, item_of, roots_of}
-use Rattle.mm_collect.specs.Uses.{end_calls, calls_of, called, body_candidates, candidates_of, uses_of, is_within}
-use Rattle.mm_collect.specs.WellFormed.{IsTypeUnder, IsCallIn, IsEndIn, IsFunctionIn, IsWellFormed, IsInstanceIn}
-use Rattle.mm_collect.proofs.PlainLemmas.{plain-subst}
-
--- ---- lists
-
--- what holds of an element wherever it passes a test holds of each that is kept
-All-kept : {X : Type 0} (test : X → Bool) (P : X → Type 0) (xs : List X) → All (λ x. test x ≡ true → P x) xs → All P (filter test xs)
-All-kept test P xs all = λ k d within. All-filter test (λ x. test x ≡ true → P x) xs all k d within (filter_passes test xs k d within)
-
--- what holds of each part holds of all that is put together
-pub All-flat_map : {X Y : Type 0} (P : Y → Type 0) (f : X → List Y) (xs : List X) → All (λ x. All P (f x)) xs → All P (flat_map f xs)
-All-flat_map P f [] all = All-nil P
-All-flat_map {X} P f (x ∷ xs) all =
-    All-append P (f x) (flat_map f xs) (All-head (λ x. All P (f x)) x xs all) (All-flat_map P f xs (All-tail (λ x. All P (f x)) x xs all))
-
--- what holds of each element holds of one that is looked up
-pub All-at : {X : Type 0} (P : X → Type 0) (xs : List X) (i : ℕ) (x : X) → All P xs → slice_get xs i ≡ Some x → P x
-All-at P xs i x all at = subst P (get_or_from_slice_get xs i x x at) (all i x (slice_get_within xs i x at))
+use Rattle.mm_program.specs.declared.program.Program.{Program}
+use Rattle.mm_program.specs.declared.program.Function.{Function}
+use Rattle.mm_program.specs.declared.program.Call.{Call}
+use Rattle.mm_program.specs.declared.program.End.{End}
+use Rattle.mm_program.specs.declared.program.End.TheVariants as end
+use Rattle.mm_program.specs.Roots.{is_generic, is_root, is_exported, is_named, generic_calls, item_of, roots_of}
+use Rattle.mm_program.specs.Uses.{end_calls, calls_of, called, body_candidates, candidates_of, uses_of, is_within}
+use Rattle.mm_program.specs.WellFormed.{IsTypeUnder, IsCallIn, IsEndIn, IsFunctionIn, IsWellFormed, IsInstanceIn}
+use Rattle.mm_program.proofs.PlainLemmas.{plain-subst}
+use Rattle.mm_terms.proofs.ListLemmas.{All-flat_map, All-slice_get, All-passing}
 
 -- ---- roots
 
@@ -77,7 +62,7 @@ module _ (p : Program) (well : IsWellFormed p) where
   pub roots_are : All (IsInstanceIn p) (roots_of p)
   roots_are =
       All-map (IsInstanceIn p) (λ one. item_of one.0) (filter (is_root p) (enumerate_from 0 p.functions))
-      (All-kept (is_root p) (λ one. IsInstanceIn p (item_of one.0)) (enumerate_from 0 p.functions) each_root)
+      (All-passing (λ one. IsInstanceIn p (item_of one.0)) (is_root p) (enumerate_from 0 p.functions) each_root)
 
 -- ---- uses
 
@@ -91,8 +76,8 @@ type_called args each t type =
     }
 
 module _ (p : Program) (f : Function) (args : List Tree) (count : length args ≡ f.type_params) (each : All (IsTypeUnder 0) args) where
-  call_leads : (call : Call) → IsCallIn p f call → IsInstanceIn p (called args call)
-  call_leads call is =
+  call_names : (call : Call) → IsCallIn p f call → IsInstanceIn p (called args call)
+  call_names call is =
       record {
         function = is.callee;
         named = is.named;
@@ -102,24 +87,24 @@ module _ (p : Program) (f : Function) (args : List Tree) (count : length args �
             (λ k d within. type_called args each (get_or call.args k d) (subst (λ n. IsTypeUnder n (get_or call.args k d)) (sym count) (is.types k d within)));
       }
 
-  end_leads : (e : End) → IsEndIn p f e → All (λ call. IsInstanceIn p (called args call)) (end_calls e)
-  end_leads (end.Call call) is = All-cons (λ call. IsInstanceIn p (called args call)) call [] (call_leads call is) (All-nil (λ call. IsInstanceIn p (called args call)))
-  end_leads end.Return is = All-nil (λ call. IsInstanceIn p (called args call))
-  end_leads end.Unreachable is = All-nil (λ call. IsInstanceIn p (called args call))
-  end_leads (end.Goto label) is = All-nil (λ call. IsInstanceIn p (called args call))
-  end_leads (end.Switch only arms label) is = All-nil (λ call. IsInstanceIn p (called args call))
+  end_names : (e : End) → IsEndIn p f e → All (λ call. IsInstanceIn p (called args call)) (end_calls e)
+  end_names (end.Call call) is = All-cons (λ call. IsInstanceIn p (called args call)) call [] (call_names call is) (All-nil (λ call. IsInstanceIn p (called args call)))
+  end_names end.Return is = All-nil (λ call. IsInstanceIn p (called args call))
+  end_names end.Unreachable is = All-nil (λ call. IsInstanceIn p (called args call))
+  end_names (end.Goto label) is = All-nil (λ call. IsInstanceIn p (called args call))
+  end_names (end.Switch only arms label) is = All-nil (λ call. IsInstanceIn p (called args call))
 
-  body_leads : IsFunctionIn p f → All (IsInstanceIn p) (body_candidates args (Some f))
-  body_leads is =
+  body_names : IsFunctionIn p f → All (IsInstanceIn p) (body_candidates args (Some f))
+  body_names is =
       All-map (IsInstanceIn p) (called args) (calls_of f)
       (All-flat_map (λ call. IsInstanceIn p (called args call)) (λ block. end_calls block.end) f.blocks
-      (λ k d within. end_leads (get_or f.blocks k d).end (is.blocks k d within).end))
+      (λ k d within. end_names (get_or f.blocks k d).end (is.blocks k d within).end))
 
 -- what an instance uses are instances
 pub candidates_are : (p : Program) (x : Item) → IsWellFormed p → IsInstanceIn p x → All (IsInstanceIn p) (candidates_of p x)
 candidates_are p (Fn d args) well is =
     subst (λ found. All (IsInstanceIn p) (body_candidates args found)) (sym is.named)
-    (body_leads p is.function args is.type_args is.types (All-at (IsFunctionIn p) p.functions d.0 is.function well.functions is.named))
+    (body_names p is.function args is.type_args is.types (All-slice_get (IsFunctionIn p) p.functions d.0 is.function well.functions is.named))
 candidates_are p (Glue t) well is = absurd is
 candidates_are p (Shim t) well is = absurd is
 candidates_are p (Static d) well is = absurd is

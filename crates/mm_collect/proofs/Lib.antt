@@ -5,5 +5,4 @@ mod GrowthLemmas
 mod ClosingLemmas
 pub mod VerdictLemmas
 mod FindingLemmas
-pub mod PlainLemmas
 pub mod InstanceLemmas

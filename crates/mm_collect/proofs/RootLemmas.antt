@@ -10,14 +10,14 @@ use Rattle.std.proofs.lemmas.List.Elements.{filter_more}
 use Rattle.std.proofs.lemmas.List.Folds.{list_any-append}
 use Rattle.std.proofs.lemmas.List.FromFn.{length-enumerate_from, get_or-enumerate_from}
 use Rattle.mm_terms.specs.declared.item.Item.{Item}
-use Rattle.mm_collect.specs.declared.program.Program.{Program}
-use Rattle.mm_collect.specs.declared.program.Function.{Function}
-use Rattle.mm_collect.specs.declared.program.Block.{Block}
-use Rattle.mm_collect.specs.declared.program.Call.{Call}
-use Rattle.mm_collect.specs.declared.program.End.{End}
-use Rattle.mm_collect.specs.declared.program.End.TheVariants as end
-use Rattle.mm_collect.specs.Uses.{end_calls, calls_of}
-use Rattle.mm_collect.specs.Roots.{is_generic, is_named, AreMarks, item_of, is_root, roots_of}
+use Rattle.mm_program.specs.declared.program.Program.{Program}
+use Rattle.mm_program.specs.declared.program.Function.{Function}
+use Rattle.mm_program.specs.declared.program.Block.{Block}
+use Rattle.mm_program.specs.declared.program.Call.{Call}
+use Rattle.mm_program.specs.declared.program.End.{End}
+use Rattle.mm_program.specs.declared.program.End.TheVariants as end
+use Rattle.mm_program.specs.Uses.{end_calls, calls_of}
+use Rattle.mm_program.specs.Roots.{is_generic, is_named, AreMarks, item_of, is_root, roots_of}
 
 -- ---- roots
 
@@ -37,11 +37,11 @@ one_more p fs n f within is =
     let all : List (ℕ × Function) = enumerate_from 0 fs in
     let count : length all ≡ length fs = length-enumerate_from 0 fs in
     let one : get_or all n (n, f) ≡ (n, f) = get_or-enumerate_from 0 fs n (n, f) within ∙ (λ i. (zero-add n i, is i)) in
-    let front : List (ℕ × Function) = filter (is_root p) (take n all) in
-    let more : filter (is_root p) (take (n + 1) all) ≡ front ++ cond (is_root p (n, f)) ((n, f) ∷ []) [] = filter_more (is_root p) all n (n, f) (omega (arith, count)) ∙ ap (λ y. front ++ cond (is_root p y) (y ∷ []) []) one in
+    let prefix : List (ℕ × Function) = filter (is_root p) (take n all) in
+    let more : filter (is_root p) (take (n + 1) all) ≡ prefix ++ cond (is_root p (n, f)) ((n, f) ∷ []) [] = filter_more (is_root p) all n (n, f) (omega (arith, count)) ∙ ap (λ y. prefix ++ cond (is_root p y) (y ∷ []) []) one in
     ap (map instance) more
-    ∙ map-append instance front (cond (is_root p (n, f)) ((n, f) ∷ []) [])
-    ∙ ap (λ last. map instance front ++ last) (map_one (is_root p (n, f)) (n, f))
+    ∙ map-append instance prefix (cond (is_root p (n, f)) ((n, f) ∷ []) [])
+    ∙ ap (λ last. map instance prefix ++ last) (map_one (is_root p (n, f)) (n, f))
 
 -- one more function is a root, or is none
 pub one_taken : (p : Program) (fs : List Function) (n k : ℕ) (f : Function) → n < length fs → get_or fs n f ≡ f → k ≡ n → is_root p (k, f) ≡ true → first_roots p fs (n + 1) ≡ first_roots p fs n ++ instance (k, f) ∷ []
@@ -93,11 +93,11 @@ flat_one false f = refl
 
 more_generic : (fs : List Function) (n : ℕ) (f : Function) → n < length fs → f ≡ get_or fs n f → first_generic fs (n + 1) ≡ first_generic fs n ++ cond (is_generic f) (calls_of f) []
 more_generic fs n f within is =
-    let front : List Function = filter is_generic (take n fs) in
-    let more : filter is_generic (take (n + 1) fs) ≡ front ++ cond (is_generic f) (f ∷ []) [] = filter_more is_generic fs n f within ∙ ap (λ y. front ++ cond (is_generic y) (y ∷ []) []) (sym is) in
+    let prefix : List Function = filter is_generic (take n fs) in
+    let more : filter is_generic (take (n + 1) fs) ≡ prefix ++ cond (is_generic f) (f ∷ []) [] = filter_more is_generic fs n f within ∙ ap (λ y. prefix ++ cond (is_generic y) (y ∷ []) []) (sym is) in
     ap (flat_map calls_of) more
-    ∙ flat_map-append calls_of front (cond (is_generic f) (f ∷ []) [])
-    ∙ ap (λ last. flat_map calls_of front ++ last) (flat_one (is_generic f) f)
+    ∙ flat_map-append calls_of prefix (cond (is_generic f) (f ∷ []) [])
+    ∙ ap (λ last. flat_map calls_of prefix ++ last) (flat_one (is_generic f) f)
 
 pub generic_taken : (fs : List Function) (n : ℕ) (f : Function) → n < length fs → f ≡ get_or fs n f → is_generic f ≡ true → first_generic fs (n + 1) ≡ first_generic fs n ++ calls_of f
 generic_taken fs n f within is generic = more_generic fs n f within is ∙ ap (λ b. first_generic fs n ++ cond b (calls_of f) []) generic

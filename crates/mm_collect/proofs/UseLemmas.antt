@@ -7,15 +7,15 @@ use Rattle.mm_terms.specs.declared.ids.DefId.{DefId}
 use Rattle.mm_terms.specs.declared.tree.Tree.{Tree}
 use Rattle.mm_terms.specs.declared.item.Item.{Item}
 use Rattle.mm_terms.specs.declared.item.Item.TheVariants.{Fn}
-use Rattle.mm_collect.specs.declared.over.Over.{Over}
-use Rattle.mm_collect.specs.declared.program.Program.{Program}
-use Rattle.mm_collect.specs.declared.program.Function.{Function}
-use Rattle.mm_collect.specs.declared.program.Block.{Block}
-use Rattle.mm_collect.specs.declared.program.Call.{Call}
-use Rattle.mm_collect.specs.Uses.{end_calls, called, body_candidates, candidates_of, is_within, uses_of, note_of, notes_of}
+use Rattle.mm_program.specs.declared.over.Over.{Over}
+use Rattle.mm_program.specs.declared.program.Program.{Program}
+use Rattle.mm_program.specs.declared.program.Function.{Function}
+use Rattle.mm_program.specs.declared.program.Block.{Block}
+use Rattle.mm_program.specs.declared.program.Call.{Call}
+use Rattle.mm_program.specs.Uses.{end_calls, called, body_candidates, candidates_of, is_within, uses_of, note_of, notes_of}
 use Rattle.mm_collect.specs.declared.uses.Candidate.TheVariants as candidate
 use Rattle.mm_collect.specs.Candidates.{Judges}
-use Rattle.mm_collect.specs.Notes.{IsLeast}
+use Rattle.mm_program.specs.Notes.{IsLeast}
 use Rattle.mm_collect.proofs.NoteLemmas.{least_one}
 use Rattle.mm_collect.proofs.RootLemmas.{first_calls, more_calls}
 
@@ -66,14 +66,14 @@ module _ (p : Program) (limit : ℕ) (args : List Tree) (blocks : List Block) (n
         ∙ ap (map (note_of p)) (filter_one Long (first_candidates args blocks n) (called args call) (not b) (ap not fits))
         ∙ map-append (note_of p) (filter Long (first_candidates args blocks n)) (cond (not b) (called args call ∷ []) [])
 
-    -- a call that leads to an item within the limit
+    -- a call that resolves to an item within the limit
     pub one_used : is_within limit (called args call) ≡ true → first_uses limit args blocks (n + 1) ≡ first_uses limit args blocks n ++ called args call ∷ []
     one_used = uses_by true
 
     pub used_not_noted : is_within limit (called args call) ≡ true → first_notes p limit args blocks (n + 1) ≡ first_notes p limit args blocks n
     used_not_noted fits = notes_by true fits ∙ append-nil (first_notes p limit args blocks n)
 
-    -- a call that leads to an item that is too long
+    -- a call that resolves to an item that is too long
     pub one_noted : is_within limit (called args call) ≡ false → first_notes p limit args blocks (n + 1) ≡ first_notes p limit args blocks n ++ note_of p (called args call) ∷ []
     one_noted = notes_by false
 

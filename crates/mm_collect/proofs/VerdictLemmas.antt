@@ -6,17 +6,17 @@ use Rattle.std.specs.declared.cmp.Ordering.TheVariants.{Less}
 use Rattle.std.proofs.lemmas.List.Elements.{All-nil, All-cons, All-weaker, All-contains, Contains-append_left, Contains-append_right, Contains-append_cases}
 use Rattle.mm_terms.specs.declared.item.Item.{Item}
 use Rattle.mm_terms.specs.Closure.{IsMember, AreMembers}
-use Rattle.mm_terms.proofs.ClosureLemmas.{one_verdict, one_closure}
-use Rattle.mm_collect.specs.declared.over.Over.{Over}
-use Rattle.mm_collect.specs.declared.program.Opts.{Opts}
-use Rattle.mm_collect.specs.declared.program.Program.{Program}
+use Rattle.mm_terms.proofs.ClosureLemmas.{more_is_longer, one_closure}
+use Rattle.mm_program.specs.declared.over.Over.{Over}
+use Rattle.mm_program.specs.declared.program.Opts.{Opts}
+use Rattle.mm_program.specs.declared.program.Program.{Program}
 use Rattle.std.specs.declared.result.Result.{Result}
 use Rattle.mm_collect.specs.declared.fault.CollectFault.{CollectFault}
 use Rattle.mm_collect.specs.declared.fault.CollectFault.TheVariants.{TypeLength}
-use Rattle.mm_collect.specs.Notes.{note_cmp, IsLeast}
-use Rattle.mm_collect.specs.Roots.{roots_of}
-use Rattle.mm_collect.specs.Uses.{uses_of, notes_of}
-use Rattle.mm_collect.specs.Verdict.{over, IsNoted, IsTooMany, IsTooLong, IsAccepted}
+use Rattle.mm_program.specs.Notes.{note_cmp, IsLeast}
+use Rattle.mm_program.specs.Roots.{roots_of}
+use Rattle.mm_program.specs.Uses.{uses_of, notes_of}
+use Rattle.mm_program.specs.Verdict.{over, IsNoted, IsTooMany, IsTooLong, IsAccepted}
 use Rattle.mm_collect.proofs.NoteLemmas.{one_note}
 
 -- ---- what the members note
@@ -80,21 +80,21 @@ module _ (p : Program) (opts : Opts) (items : List Item) (members : AreMembers (
 
 pub many_or_long : (p : Program) (opts : Opts) (path : List ℕ) (n : ℕ) → IsTooMany p opts → IsTooLong p opts path n → ⊥
 many_or_long p opts path n many long =
-    let longer = one_verdict (roots_of p) (uses_of p opts.length) opts.items long.items many long.members in
+    let longer = more_is_longer (roots_of p) (uses_of p opts.length) opts.items long.items many long.members in
     let within = long.within in
     omega (arith, longer, within)
 
 pub many_or_accepted : (p : Program) (opts : Opts) (items : List Item) → IsTooMany p opts → IsAccepted p opts items → ⊥
 many_or_accepted p opts items many accepted =
-    let longer = one_verdict (roots_of p) (uses_of p opts.length) opts.items items many accepted.members in
+    let longer = more_is_longer (roots_of p) (uses_of p opts.length) opts.items items many accepted.members in
     let within = accepted.within in
     omega (arith, longer, within)
 
 pub long_or_accepted : (p : Program) (opts : Opts) (path : List ℕ) (n : ℕ) (items : List Item) → IsTooLong p opts path n → IsAccepted p opts items → ⊥
 long_or_accepted p opts path n items long accepted = accepted.none (over path n) long.noted
 
-pub one_note_told : (p : Program) (opts : Opts) (path other : List ℕ) (n m : ℕ) → IsTooLong p opts path n → IsTooLong p opts other m → (path ≡ other) × (n ≡ m)
-one_note_told p opts path other n m one two =
+pub one_note_reported : (p : Program) (opts : Opts) (path other : List ℕ) (n m : ℕ) → IsTooLong p opts path n → IsTooLong p opts other m → (path ≡ other) × (n ≡ m)
+one_note_reported p opts path other n m one two =
     one_note (over path n) (over other m) (two.least (over path n) one.noted) (one.least (over other m) two.noted)
 
 pub one_listing : (p : Program) (opts : Opts) (items others : List Item) → IsAccepted p opts items → IsAccepted p opts others → IsPermutation items others
@@ -102,16 +102,16 @@ one_listing p opts items others one two = one_closure (roots_of p) (uses_of p op
 
 -- ---- what an answer tells
 
-told_path : {X : Type 0} → Result X CollectFault → List ℕ
-told_path (Err (TypeLength path n)) = path
-told_path answer = []
+reported_path : {X : Type 0} → Result X CollectFault → List ℕ
+reported_path (Err (TypeLength path n)) = path
+reported_path answer = []
 
-told_length : {X : Type 0} → Result X CollectFault → ℕ
-told_length (Err (TypeLength path n)) = n
-told_length answer = 0
+reported_length : {X : Type 0} → Result X CollectFault → ℕ
+reported_length (Err (TypeLength path n)) = n
+reported_length answer = 0
 
 -- one answer tells one path and one length
-pub as_told : {X : Type 0} (p : Program) (opts : Opts) (path other : List ℕ) (n m : ℕ) (answer : Result X CollectFault) → answer ≡ Err (TypeLength path n) → answer ≡ Err (TypeLength other m) → IsTooLong p opts path n → IsTooLong p opts other m
-unfolding told_path told_length
-as_told p opts path other n m answer is was long =
-    subst (IsTooLong p opts other) (ap told_length (sym is ∙ was)) (subst (λ bytes. IsTooLong p opts bytes n) (ap told_path (sym is ∙ was)) long)
+pub as_reported : {X : Type 0} (p : Program) (opts : Opts) (path other : List ℕ) (n m : ℕ) (answer : Result X CollectFault) → answer ≡ Err (TypeLength path n) → answer ≡ Err (TypeLength other m) → IsTooLong p opts path n → IsTooLong p opts other m
+unfolding reported_path reported_length
+as_reported p opts path other n m answer is was long =
+    subst (IsTooLong p opts other) (ap reported_length (sym is ∙ was)) (subst (λ bytes. IsTooLong p opts bytes n) (ap reported_path (sym is ∙ was)) long)

@@ -5,17 +5,18 @@ ghost use Rattle.mm_terms.specs.declared.item.Item.{Item};
 ghost use Rattle.mm_terms.specs.Same.{same_item};
 ghost use Rattle.mm_terms.specs.Closure.{AreMembers, HasMoreThan};
 ghost use Rattle.mm_collect.specs.declared.closure.Stop.TheVariants.{NoMemory};
-ghost use Rattle.mm_collect.specs.declared.over.Over.{Over};
-ghost use Rattle.mm_collect.specs.Finding.{AreInOrder};
-ghost use Rattle.mm_collect.specs.Notes.{IsLeast};
+ghost use Rattle.mm_program.specs.declared.over.Over.{Over};
+ghost use Rattle.mm_program.specs.Finding.{AreInOrder};
+ghost use Rattle.mm_program.specs.Notes.{IsLeast};
 
-use crate::over::{Over, least_over};
+use crate::over::least_over;
 use indexmap::IndexSet;
+use mm_program::Over;
 use mm_terms::{Item, ItemList};
 use std::alloc::{AllocError, AllocFailed, Global};
 
 /// Why the members of a closure are not listed.
-#[derive(Clone, Copy, Debug, PartialEq, Eq, Hash)]
+#[derive(Clone, Copy)]
 pub enum Stop {
     /// There are more of them than the limit.
     TooMany,
@@ -39,7 +40,7 @@ impl<T: Drop> From<AllocFailed<T>> for Stop {
 }
 
 /// What an item uses, and what it notes.
-#[derive(Debug, Drop)]
+#[derive(Drop)]
 pub struct Scan {
     pub used: Vec<Item>,
     /// The least of its notes, if it has any.
@@ -99,7 +100,7 @@ fn claim_all(found: &mut IndexSet<Item>, limit: usize, items: Vec<Item>) -> Resu
 }
 
 /// The members of a closure, and the least of all that they note.
-#[derive(Debug, Drop)]
+#[derive(Drop)]
 pub struct Closed {
     pub items: ItemList,
     pub over: Option<Over>,

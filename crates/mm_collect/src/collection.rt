@@ -1,14 +1,14 @@
 ghost use Rattle.std.specs.Prelude.{◌≡◌, ◌≢◌, ℕ, List, IfOk};
-ghost use Rattle.mm_collect.specs.Finding.{AreInOrder};
-ghost use Rattle.mm_collect.specs.Roots.{roots_of};
-ghost use Rattle.mm_collect.specs.Uses.{uses_of, notes_of};
-ghost use Rattle.mm_collect.specs.Verdict.{IsAccepted, IsTooLong, IsTooMany};
+ghost use Rattle.mm_program.specs.Finding.{AreInOrder};
+ghost use Rattle.mm_program.specs.Roots.{roots_of};
+ghost use Rattle.mm_program.specs.Uses.{uses_of, notes_of};
+ghost use Rattle.mm_program.specs.Verdict.{IsAccepted, IsTooLong, IsTooMany};
 
 use crate::closure::{Closed, Graph, Scan, Stop, members};
 use crate::fault::CollectFault;
-use crate::program::{Opts, Program};
 use crate::roots::roots;
 use crate::uses::uses;
+use mm_program::{Opts, Program};
 use mm_terms::{Item, ItemList};
 use std::alloc::{AllocError, Global};
 
@@ -35,8 +35,8 @@ impl Graph for Instances<'_> {
     }
 }
 
-/// The mono items of a program, each once, in order of finding: its roots, and all that a chain of uses leads to from a
-/// root. A use is an instance that a call leads to and that is within the limit on lengths.
+/// The mono items of a program, each once, in order of finding: its roots, and all that a chain of uses resolves to from a
+/// root. A use is an instance that a call resolves to and that is within the limit on lengths.
 ///
 /// # Errors
 /// - `TooMany`, with the limit on items, where the program has more items than that.

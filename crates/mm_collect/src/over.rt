@@ -1,21 +1,12 @@
 ghost use Rattle.std.specs.Prelude.{◌≡◌, List, ◌++◌};
-ghost use Rattle.mm_collect.specs.declared.over.Over.{Over};
-ghost use Rattle.mm_collect.specs.Notes.{note_cmp, IsLeast};
+ghost use Rattle.mm_program.specs.declared.over.Over.{Over};
+ghost use Rattle.mm_program.specs.Notes.{note_cmp, IsLeast};
 
-use mm_terms::Text;
+use mm_program::Over;
 use std::cmp::Ordering;
 
-/// The note of an instance that is too long.
-#[derive(Debug, Drop)]
-pub struct Over {
-    /// The path of its definition.
-    pub path: Text,
-    /// Its length.
-    pub length: u32,
-}
-
 /// By the bytes of the paths, and then by the lengths.
-#[tactic(auto, unfolding(crate::specs::Notes::note_cmp))]
+#[tactic(auto, unfolding(mm_program::specs::Notes::note_cmp))]
 fn compare(one: &Over, other: &Over) -> Ordering
     ensures { result ≡ note_cmp one.now other.now }
 {

@@ -1,17 +1,17 @@
-ghost use Rattle.std.specs.Prelude.{◌≡◌, slice_get, IfOk};
-ghost use Rattle.mm_collect.specs.Uses.{called, function_path, uses_of, notes_of};
+ghost use Rattle.std.specs.Prelude.{◌≡◌, IfOk};
+ghost use Rattle.mm_program.specs.Uses.{called, uses_of, notes_of};
 ghost use Rattle.mm_collect.specs.Candidates.{Judges};
-ghost use Rattle.mm_collect.specs.Notes.{IsLeast};
+ghost use Rattle.mm_program.specs.Notes.{IsLeast};
 
 use crate::closure::Scan;
-use crate::over::{Over, least_over};
-use crate::program::{Call, End, Program};
+use crate::over::least_over;
+use mm_program::{Call, End, Over, Program};
 use mm_subst::{applied_length, apply_all};
-use mm_terms::{DefId, Item, NoMemory, Text, Ty};
+use mm_terms::{Item, NoMemory, Text, Ty};
 use std::alloc::Global;
 
-/// What a call leads to, by its length.
-#[derive(Debug, Drop)]
+/// What a call resolves to, by its length.
+#[derive(Drop)]
 enum Candidate {
     /// It is within the limit, and used.
     Within(Item),
@@ -19,17 +19,7 @@ enum Candidate {
     Over(Over),
 }
 
-/// The path of a function.
-fn path(alloc: Global, p: &Program, def: DefId) -> Result<Text, NoMemory>
-    ensures { IfOk result (λ path. path ≡ function_path (slice_get p.now.functions def.0)) }
-{
-    match p.functions.get(def.0 as usize) {
-        Some(function) => Text::from_slice(alloc, function.path.as_slice()),
-        None => Ok(Text::new(alloc)),
-    }
-}
-
-/// What a call leads to in the instance at the arguments. It is made only where it is within the limit.
+/// What a call resolves to in the instance at the arguments. It is made only where it is within the limit.
 fn judge(
     alloc: Global,
     p: &Program,
@@ -44,7 +34,7 @@ fn judge(
         return Err(NoMemory);
     };
     if length > limit {
-        let path = path(alloc, p, call.callee)?;
+        let path = Text::from_slice(alloc, p.path(call.callee))?;
         return Ok(Candidate::Over(Over { path, length }));
     }
     let args = apply_all(alloc, types, args)?;

@@ -8,24 +8,24 @@ use Rattle.mm_terms.specs.declared.tree.Tree.{Tree}
 use Rattle.mm_terms.specs.declared.item.Item.{Item}
 use Rattle.mm_terms.specs.declared.item.Item.TheVariants.{Fn, Glue, Shim, Static}
 use Rattle.mm_terms.specs.Order.{types_of}
-use Rattle.mm_collect.specs.declared.program.Program.{Program}
-use Rattle.mm_collect.specs.declared.program.Function.{Function}
-use Rattle.mm_collect.specs.declared.program.Block.{Block}
-use Rattle.mm_collect.specs.declared.program.Place.{Place}
-use Rattle.mm_collect.specs.declared.program.Statement.{Statement}
-use Rattle.mm_collect.specs.declared.program.Statement.TheVariants as statement
-use Rattle.mm_collect.specs.declared.program.Rvalue.{Rvalue}
-use Rattle.mm_collect.specs.declared.program.Rvalue.TheVariants as rvalue
-use Rattle.mm_collect.specs.declared.program.Operand.{Operand}
-use Rattle.mm_collect.specs.declared.program.Operand.TheVariants as operand
-use Rattle.mm_collect.specs.declared.program.Arm.{Arm}
-use Rattle.mm_collect.specs.declared.program.End.{End}
-use Rattle.mm_collect.specs.declared.program.End.TheVariants as end
-use Rattle.mm_collect.specs.declared.program.Call.{Call}
-use Rattle.mm_collect.specs.Roots.{item_of}
-use Rattle.mm_collect.specs.Uses.{end_calls, calls_of, called, body_candidates, candidates_of}
-use Rattle.mm_collect.specs.WellFormed.{IsBlockIn, IsEndIn, IsFunctionIn, IsInstanceIn, IsLabelOf, IsOperandOf, IsPlaceOf, IsRvalueOf, IsStatementOf}
-use Rattle.mm_collect.proofs.InstanceLemmas.{All-at}
+use Rattle.mm_program.specs.declared.program.Program.{Program}
+use Rattle.mm_program.specs.declared.program.Function.{Function}
+use Rattle.mm_program.specs.declared.program.Block.{Block}
+use Rattle.mm_program.specs.declared.program.Place.{Place}
+use Rattle.mm_program.specs.declared.program.Statement.{Statement}
+use Rattle.mm_program.specs.declared.program.Statement.TheVariants as statement
+use Rattle.mm_program.specs.declared.program.Rvalue.{Rvalue}
+use Rattle.mm_program.specs.declared.program.Rvalue.TheVariants as rvalue
+use Rattle.mm_program.specs.declared.program.Operand.{Operand}
+use Rattle.mm_program.specs.declared.program.Operand.TheVariants as operand
+use Rattle.mm_program.specs.declared.program.Arm.{Arm}
+use Rattle.mm_program.specs.declared.program.End.{End}
+use Rattle.mm_program.specs.declared.program.End.TheVariants as end
+use Rattle.mm_program.specs.declared.program.Call.{Call}
+use Rattle.mm_program.specs.Roots.{main_item}
+use Rattle.mm_program.specs.Uses.{end_calls, calls_of, called, body_candidates, candidates_of}
+use Rattle.mm_program.specs.WellFormed.{IsBlockIn, IsEndIn, IsFunctionIn, IsInstanceIn, IsLabelOf, IsOperandOf, IsPlaceOf, IsRvalueOf, IsStatementOf}
+use Rattle.mm_terms.proofs.ListLemmas.{All-slice_get, All-from_map, All-both, All-from_contains, All-from_flat_map}
 use Rattle.mm_lex.specs.LexTokens.{IsName}
 use Rattle.mm_symbols.specs.ItemForms.{form_of, depth_of}
 use Rattle.mm_symbols.specs.SymbolForms.{IsSymbolOf}
@@ -42,28 +42,6 @@ use Rattle.mm_emit.specs.Numbers.{FitsArm, FitsBlock, FitsDef, FitsEnd, FitsInst
 use Rattle.mm_emit.proofs.References.{def_from}
 use Rattle.mm_emit.proofs.OwnSymbols.{own_symbols}
 
--- ---- lists
-
--- what holds of what is made holds of each as it is made
-unmapped : {X Y : Type 0} (P : Y → Type 0) (f : X → Y) (xs : List X) → All P (map f xs) → All (λ x. P (f x)) xs
-unmapped P f xs all k d within = subst P (get_or-map f xs k d (f d) within) (all k (f d) (let same = length-map xs f in omega (arith, within, same)))
-
--- what follows from two things of each element
-joined : {X : Type 0} (P Q R : X → Type 0) → ((x : X) → P x → Q x → R x) → (xs : List X) → All P xs → All Q xs → All R xs
-joined P Q R from xs these those k d within = from (get_or xs k d) (these k d within) (those k d within)
-
--- what holds of each that stands in a list
-from_contains : {X : Type 0} (P : X → Type 0) (xs : List X) → ((x : X) → Contains xs x → P x) → All P xs
-from_contains P xs each k d within = each (get_or xs k d) (k, within, get_or_default xs k (get_or xs k d) d within)
-
--- what holds of all that is put together holds of each part
-apart : {X Y : Type 0} (P : Y → Type 0) (f : X → List Y) (xs : List X) → All P (flat_map f xs) → All (λ x. All P (f x)) xs
-apart P f [] all = All-nil (λ x. All P (f x))
-apart P f (x ∷ xs) all =
-    All-cons (λ x. All P (f x)) x xs
-    (from_contains P (f x) (λ y here. All-contains P (f x ++ flat_map f xs) y all (Contains-append_left (f x) (flat_map f xs) y here)))
-    (apart P f xs (from_contains P (flat_map f xs) (λ y here. All-contains P (f x ++ flat_map f xs) y all (Contains-append_right (f x) (flat_map f xs) y here))))
-
 -- ---- bodies
 
 module _ (f : Function) (few : length f.locals ≤ 65536) where
@@ -79,7 +57,7 @@ module _ (f : Function) (few : length f.locals ≤ 65536) where
   reads : (os : List Operand) → All (IsOperandOf f) os → All FitsOperand (map operand_of os) → All (IsOperand (length f.locals)) (map operand_of os)
   reads os are fit =
       All-map (IsOperand (length f.locals)) operand_of os
-      (joined (IsOperandOf f) (λ o. FitsOperand (operand_of o)) (λ o. IsOperand (length f.locals) (operand_of o)) read os are (unmapped FitsOperand operand_of os fit))
+      (All-both (IsOperandOf f) (λ o. FitsOperand (operand_of o)) (λ o. IsOperand (length f.locals) (operand_of o)) read os are (All-from_map FitsOperand operand_of os fit))
 
   value : (r : Rvalue) → IsRvalueOf f r → FitsRvalue (rvalue_of r) → IsRvalue (length f.locals) (rvalue_of r)
   value (rvalue.Use o) is fits = read o is fits
@@ -102,7 +80,7 @@ module _ (f : Function) (few : length f.locals ≤ 65536) where
     ending end.Unreachable is used fits = tt
     ending (end.Goto k) is used fits = label k is
     ending (end.Switch o arms other) is used fits =
-        (read o is.0 fits.0, joined (λ one. IsLabelOf f one.label) FitsArm (IsArm blocks) arm arms is.1 fits.1, label other is.2)
+        (read o is.0 fits.0, All-both (λ one. IsLabelOf f one.label) FitsArm (IsArm blocks) arm arms is.1 fits.1, label other is.2)
     ending (end.Call call) is used fits =
         (place call.place is.place, code (called args call) (All-head (λ c. Contains items (called args c)) call [] used), reads call.operands is.operands fits, label call.target is.target)
 
@@ -114,15 +92,15 @@ module _ (f : Function) (few : length f.locals ≤ 65536) where
         record {
           instrs =
               All-map (IsInstr (length f.locals)) instr_of b.statements
-              (joined (IsStatementOf f) (λ s. FitsInstr (instr_of s)) (λ s. IsInstr (length f.locals) (instr_of s)) instr b.statements is.statements (unmapped FitsInstr instr_of b.statements more.1.0));
+              (All-both (IsStatementOf f) (λ s. FitsInstr (instr_of s)) (λ s. IsInstr (length f.locals) (instr_of s)) instr b.statements is.statements (All-from_map FitsInstr instr_of b.statements more.1.0));
           end = ending b.end is.end more.0 more.1.1;
         }
 
     body : (bs : List Block) → All (IsBlockIn p f) bs → All Used bs → All FitsBlock (map (block_of p args) bs) → All (IsBlock (length f.locals) blocks) (map (block_of p args) bs)
     body bs are used fit =
         All-map (IsBlock (length f.locals) blocks) (block_of p args) bs
-        (joined (IsBlockIn p f) (λ b. Used b × FitsBlock (block_of p args b)) (λ b. IsBlock (length f.locals) blocks (block_of p args b)) block bs are
-        (joined Used (λ b. FitsBlock (block_of p args b)) (λ b. Used b × FitsBlock (block_of p args b)) (λ b u v. (u, v)) bs used (unmapped FitsBlock (block_of p args) bs fit)))
+        (All-both (IsBlockIn p f) (λ b. Used b × FitsBlock (block_of p args b)) (λ b. IsBlock (length f.locals) blocks (block_of p args b)) block bs are
+        (All-both Used (λ b. FitsBlock (block_of p args b)) (λ b. Used b × FitsBlock (block_of p args b)) (λ b u v. (u, v)) bs used (All-from_map FitsBlock (block_of p args) bs fit)))
 
 -- ---- definitions
 
@@ -147,7 +125,7 @@ module _ (p : Program) (items : List Item) (is : IsComplete p items) where
   function_def : (x : Item) (args : List Tree) (f : Function) → IsFunctionIn p f → IsCodeSymbol (item_symbol p x) → All (Contains items) (body_candidates args (Some f)) → FitsDef (code_of p (item_symbol p x) External args (Some f)) → IsDef (code_of p (item_symbol p x) External args (Some f))
   function_def x args f well symbol used fits =
       let as_many : length (map (block_of p args) f.blocks) ≡ length f.blocks = length-map f.blocks (block_of p args) in
-      let calls = apart (λ call. Contains items (called args call)) (λ b. end_calls b.end) f.blocks (unmapped (Contains items) (called args) (calls_of f) used) in
+      let calls = All-from_flat_map (λ call. Contains items (called args call)) (λ b. end_calls b.end) f.blocks (All-from_map (Contains items) (called args) (calls_of f) used) in
       record {
         symbol_is = symbol;
         above_params = omega (arith, well.locals);
@@ -160,10 +138,10 @@ module _ (p : Program) (items : List Item) (is : IsComplete p items) where
   item_def : (x : Item) → Contains items x → IsInstanceIn p x → FitsDef (def_of p External x) → IsDef (def_of p External x)
   item_def (Fn d args) here instance fits =
       let named = instance.named in
-      let used : All (Contains items) (candidates_of p (Fn d args)) = from_contains (Contains items) (candidates_of p (Fn d args)) (λ y there. is.uses (Fn d args) y here there) in
+      let used : All (Contains items) (candidates_of p (Fn d args)) = All-from_contains (Contains items) (candidates_of p (Fn d args)) (λ y there. is.uses (Fn d args) y here there) in
       subst (λ (o : Option Function). IsDef (code_of p (item_symbol p (Fn d args)) External args o)) (sym named)
       (function_def (Fn d args) args instance.function
-      (All-at (IsFunctionIn p) p.functions d.0 instance.function is.well_formed.functions named)
+      (All-slice_get (IsFunctionIn p) p.functions d.0 instance.function is.well_formed.functions named)
       (code_symbol (Fn d args) here)
       (subst (λ (o : Option Function). All (Contains items) (body_candidates args o)) named used)
       (subst (λ (o : Option Function). FitsDef (code_of p (item_symbol p (Fn d args)) External args o)) named fits))
@@ -190,7 +168,7 @@ module _ (p : Program) (items : List Item) (is : IsComplete p items) where
   unit_is u of fits =
       record {
         name_is = unit_name u of;
-        each = from_contains IsDef u.defs (λ d here.
+        each = All-from_contains IsDef u.defs (λ d here.
             let from = def_from p items u of (own_symbols p items is) d here in
             subst IsDef (sym from.2) (item_def from.0 from.1 (instance_of from.0 from.1) (subst FitsDef from.2 (All-contains FitsDef u.defs d fits here))));
       }
@@ -203,4 +181,4 @@ module _ (p : Program) (items : List Item) (is : IsComplete p items) where
   pub have_text : (objects : Objects) → AreObjectsOf p (whole_crate p items ∷ []) objects → NumbersFit objects → AreObjects objects × (length objects.units ≡ 1)
   have_text objects of fit =
       let units = units_are objects.units of.units fit in
-      (record { main_is = subst IsCodeSymbol (sym of.main) (code_symbol (item_of p.main.0) is.main); each = units.0 }, units.1)
+      (record { main_is = subst IsCodeSymbol (sym of.main) (code_symbol (main_item p) is.main); each = units.0 }, units.1)

@@ -21,31 +21,28 @@ use Rattle.mm_terms.specs.declared.tree.Tree.{Tree}
 use Rattle.mm_terms.specs.declared.item.Item.{Item}
 use Rattle.mm_terms.specs.declared.item.Item.TheVariants.{Fn, Glue, Shim, Static}
 use Rattle.mm_terms.specs.Same.{same_item, items_equal}
-use Rattle.mm_collect.specs.declared.program.Program.{Program}
-use Rattle.mm_collect.specs.declared.program.Function.{Function}
-use Rattle.mm_collect.specs.declared.program.Block.{Block}
-use Rattle.mm_collect.specs.declared.program.Call.{Call}
-use Rattle.mm_collect.specs.declared.program.End.{End}
-use Rattle.mm_collect.specs.declared.program.End.TheVariants as end
-use Rattle.mm_collect.specs.Roots.{item_of}
-use Rattle.mm_collect.specs.Uses.{end_calls, calls_of, called, body_candidates, candidates_of}
+use Rattle.mm_program.specs.declared.program.Program.{Program}
+use Rattle.mm_program.specs.declared.program.Function.{Function}
+use Rattle.mm_program.specs.declared.program.Block.{Block}
+use Rattle.mm_program.specs.declared.program.Call.{Call}
+use Rattle.mm_program.specs.declared.program.End.{End}
+use Rattle.mm_program.specs.declared.program.End.TheVariants as end
+use Rattle.mm_program.specs.Roots.{main_item}
+use Rattle.mm_program.specs.Uses.{end_calls, calls_of, called, body_candidates, candidates_of}
 use Rattle.mm_objects.specs.declared.objects.ObjUnit.{ObjUnit}
 use Rattle.mm_objects.specs.declared.objects.Linkage.{Linkage}
 use Rattle.mm_objects.specs.declared.objects.Linkage.TheVariants.{External}
-use Rattle.mm_objects.specs.Resolution.{Placed, placed, resolve, is_external, is_shared, defines, link_of, symbol_of}
+use Rattle.mm_objects.specs.Resolution.{Placed, placed, resolve, is_external, is_shared, defines, link_of, symbol_of, def_in, target_of, shared_in}
 use Rattle.mm_objects.specs.Emitted.{HaveOwnSymbols, IsUnitOf, block_of, code_of, def_of, end_of, item_symbol, whole_crate}
 use Rattle.mm_machines.specs.Agreement.{StandsAt}
-use Rattle.mm_machines.specs.Demand.{main_item}
-use Rattle.mm_machines.specs.Image.{def_in, target_of}
-use Rattle.mm_machines.specs.declared.target.Target.{Target}
-use Rattle.mm_machines.proofs.Places.{stands}
-use Rattle.mm_link.specs.Index.{shared_in}
-use Rattle.mm_link.proofs.Clashing.{in_flat}
-use Rattle.mm_link.specs.declared.clash.Clash.{Clash}
-use Rattle.mm_link.specs.Linking.{IsClash, HasNoClash, def_symbols, end_symbols, first_undefined, is_undefined, references, target_cmp, unit_references}
+use Rattle.mm_objects.specs.declared.target.Target.{Target}
+use Rattle.mm_objects.proofs.Standing.{stands}
+use Rattle.mm_objects.specs.declared.target.Clash.{Clash}
+use Rattle.mm_objects.specs.Linking.{IsClash, HasNoClash, def_symbols, end_symbols, first_undefined, is_undefined, references, target_cmp, unit_references}
 use Rattle.mm_emit.specs.Complete.{IsComplete}
-use Rattle.mm_emit.proofs.References.{and_right, at, comes_from, def_from, def_symbol, find_is, find_misses, first_or_other, later, made, names, resolved, shared, there_is}
+use Rattle.mm_emit.proofs.References.{at, def_from, def_symbol, made, names, resolved, shared, there_is}
 use Rattle.mm_emit.proofs.OwnSymbols.{own_symbols}
+use Rattle.mm_terms.proofs.ListLemmas.{and_right, find-Some, find-None, Contains-from_map, Contains-later, Contains-cons_cases, Contains-from_flat_map}
 
 -- ---- symbols of a unit differ
 
@@ -54,9 +51,9 @@ module _ (p : Program) where
   symbol = item_symbol p
 
   kept : (x y : Item) (ys : List Item) (z : Item) → Contains (x ∷ ys) z → Contains (x ∷ y ∷ ys) z
-  kept x y ys z here = elim (first_or_other x ys z here) [
-    | inl is ↦ (0, omega arith, sym is)
-    | inr other ↦ later x (y ∷ ys) z (later y ys z other)
+  kept x y ys z here = elim (Contains-cons_cases x ys z here) [
+    | inl is ↦ (0, omega arith, is)
+    | inr other ↦ Contains-later x (y ∷ ys) z (Contains-later y ys z other)
   ]
 
   fewer : (x y : Item) (ys : List Item) → HaveOwnSymbols p (x ∷ y ∷ ys) → HaveOwnSymbols p (x ∷ ys)
@@ -77,7 +74,7 @@ module _ (p : Program) where
   unfolding IsDistinct
   symbols_distinct [] own distinct = tt
   symbols_distinct (x ∷ xs) own distinct =
-      (first_differs x xs own distinct.0, symbols_distinct xs (λ a b inside there. own a b (later x xs a inside) (later x xs b there)) distinct.1)
+      (first_differs x xs own distinct.0, symbols_distinct xs (λ a b inside there. own a b (Contains-later x xs a inside) (Contains-later x xs b there)) distinct.1)
 
 -- ---- what definitions refer to
 
@@ -113,10 +110,10 @@ module _ (p : Program) where
 
 -- ---- the one unit
 
--- the symbol of the item that a run begins with leads to a definition of it
+-- the symbol of the item that a run begins with resolves to a definition of it
 pub record HasMainAt (p : Program) (items : List Item) (units : List ObjUnit) : Type 0 where
   pub target : Target
-  pub found : shared_in units (item_symbol p (item_of p.main.0)) ≡ Some target
+  pub found : shared_in units (item_symbol p (main_item p)) ≡ Some target
   pub stands : StandsAt p items units (main_item p) target
 
 -- definitions of items have the symbols of the items
@@ -137,7 +134,7 @@ flips a b = elim (cases_Bool (bytes_eq a b)) [
 none_passes : {X : Type 0} (test : X → Bool) (xs : List X) → ((x : X) → Contains xs x → test x ≡ false) → find test xs ≡ None
 none_passes test [] each = refl
 none_passes test (x ∷ xs) each =
-    ap (λ b. cond b (Some x) (find test xs)) (each x (0, omega arith, refl)) ∙ none_passes test xs (λ y here. each y (later x xs y here))
+    ap (λ b. cond b (Some x) (find test xs)) (each x (0, omega arith, refl)) ∙ none_passes test xs (λ y here. each y (Contains-later x xs y here))
 
 module _ (p : Program) (items : List Item) (is : IsComplete p items) (u : ObjUnit) (of : IsUnitOf p (whole_crate p items) u) where
   own : HaveOwnSymbols p items
@@ -147,7 +144,7 @@ module _ (p : Program) (items : List Item) (is : IsComplete p items) (u : ObjUni
 
   placed_at_zero : (one : Placed) → Contains (map (at p items u of own) (enumerate_from 0 u.defs)) one ⊎ Contains [] one → one.unit ≡ 0
   placed_at_zero one (inl here) =
-      let e = comes_from (at p items u of own) (enumerate_from 0 u.defs) one here in
+      let e = Contains-from_map (at p items u of own) (enumerate_from 0 u.defs) one here in
       ap (λ o. o.unit) e.2
   placed_at_zero one (inr none) = absurd (omega (arith, none.1))
 
@@ -195,16 +192,16 @@ module _ (p : Program) (items : List Item) (is : IsComplete p items) (u : ObjUni
 
   symbol_resolves : (s : List ℕ) → Contains (flat_map def_symbols u.defs) s → is_undefined (u ∷ []) (0, s) ≡ false
   symbol_resolves s here =
-      let def = in_flat def_symbols u.defs s here in
+      let def = Contains-from_flat_map def_symbols u.defs s here in
       let x = def_from p items u of own def.0 def.1 in
       let there : Contains (map (item_symbol p) (candidates_of p x.0)) s = subst (λ symbols. Contains symbols s) (ap def_symbols x.2 ∙ def_refers p External x.0) def.2 in
-      let y = comes_from (item_symbol p) (candidates_of p x.0) s there in
+      let y = Contains-from_map (item_symbol p) (candidates_of p x.0) s there in
       let found = resolved p items u of own 0 y.0 (is.uses x.0 y.0 x.1 y.1) in
       ap (λ t. is_none (resolve (u ∷ []) 0 t)) y.2 ∙ ap is_none found.there
 
   reference_resolves : (r : ℕ × List ℕ) → Contains (unit_references (0, u)) r ⊎ Contains [] r → is_undefined (u ∷ []) r ≡ false
   reference_resolves r (inl here) =
-      let s = comes_from {X = List ℕ} (λ t. (0, t)) (flat_map def_symbols u.defs) r here in
+      let s = Contains-from_map {X = List ℕ} (λ t. (0, t)) (flat_map def_symbols u.defs) r here in
       ap (is_undefined (u ∷ [])) s.2 ∙ symbol_resolves s.0 s.1
   reference_resolves r (inr none) = absurd (omega (arith, none.1))
 
@@ -213,19 +210,19 @@ module _ (p : Program) (items : List Item) (is : IsComplete p items) (u : ObjUni
 
   -- ---- main is there
 
-  pub main_found : (o : Option Placed) → find (is_shared (item_symbol p (item_of p.main.0))) (placed (u ∷ [])) ≡ o → HasMainAt p items (u ∷ [])
+  pub main_found : (o : Option Placed) → find (is_shared (item_symbol p (main_item p))) (placed (u ∷ [])) ≡ o → HasMainAt p items (u ∷ [])
   main_found (Some one) at_shared =
-      let found = find_is (is_shared (item_symbol p (item_of p.main.0))) (placed (u ∷ [])) one at_shared in
+      let found = find-Some (is_shared (item_symbol p (main_item p))) (placed (u ∷ [])) one at_shared in
       record {
         target = target_of one;
         found = ap (option_map target_of) at_shared;
         stands = record {
           one = one;
-          there = found.1;
+          there = found.0;
           at = refl;
-          of_item = names p items u of own (item_of p.main.0) is.main one found.1 (and_right (is_external (link_of one.def)) (defines (item_symbol p (item_of p.main.0)) one) found.0);
+          of_item = names p items u of own (main_item p) is.main one found.0 (and_right (is_external (link_of one.def)) (defines (item_symbol p (main_item p)) one) found.1);
         };
       }
   main_found None at_shared =
-      let one = there_is p items u of own (item_of p.main.0) is.main in
-      absurd (find_misses (is_shared (item_symbol p (item_of p.main.0))) (placed (u ∷ [])) one.0 one.1 one.2 at_shared)
+      let one = there_is p items u of own (main_item p) is.main in
+      absurd (find-None (is_shared (item_symbol p (main_item p))) (placed (u ∷ [])) one.0 at_shared one.1 one.2)

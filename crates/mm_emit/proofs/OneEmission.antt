@@ -8,7 +8,7 @@ use Rattle.std.proofs.lemmas.List.{get_or-map, length-map}
 use Rattle.std.proofs.lemmas.List.Elements.{Contains-append_right}
 use Rattle.std.proofs.lemmas.List.Sorted.{Contains-permutation, IsPermutation-map, IsPermutation-sym, IsPermutation-trans}
 use Rattle.mm_terms.specs.declared.item.Item.{Item}
-use Rattle.mm_collect.specs.declared.program.Program.{Program}
+use Rattle.mm_program.specs.declared.program.Program.{Program}
 use Rattle.mm_objects.specs.declared.objects.Objects.{Objects}
 use Rattle.mm_objects.specs.declared.objects.ObjUnit.{ObjUnit}
 use Rattle.mm_objects.specs.declared.objects.ObjDef.{ObjDef}
@@ -19,14 +19,14 @@ use Rattle.mm_objects.specs.Emitted.{AreObjectsOf, AreUnitsOf, HaveOwnSymbols, I
 use Rattle.mm_emit.proofs.OneOrder.{sorted_one}
 use Rattle.mm_emit.proofs.References.{def_from, def_symbol}
 
--- elements that are told apart by a key, where the keys are the same, are the same
-told : {X K : Type 0} (key : X → K) (xs ys : List X) → ((x y : X) → Contains xs x → Contains ys y → key x ≡ key y → x ≡ y) → map key xs ≡ map key ys → xs ≡ ys
-told key [] [] own same = refl
-told key [] (y ∷ ys) own same = absurd (omega (arith, ap length same))
-told key (x ∷ xs) [] own same = absurd (omega (arith, ap length same))
-told key (x ∷ xs) (y ∷ ys) own same =
+-- elements that are reported apart by a key, where the keys are the same, are the same
+reported : {X K : Type 0} (key : X → K) (xs ys : List X) → ((x y : X) → Contains xs x → Contains ys y → key x ≡ key y → x ≡ y) → map key xs ≡ map key ys → xs ≡ ys
+reported key [] [] own same = refl
+reported key [] (y ∷ ys) own same = absurd (omega (arith, ap length same))
+reported key (x ∷ xs) [] own same = absurd (omega (arith, ap length same))
+reported key (x ∷ xs) (y ∷ ys) own same =
     let first : x ≡ y = own x y (0, omega arith, refl) (0, omega arith, refl) (ap (λ ks. get_or ks 0 (key x)) same) in
-    let others : xs ≡ ys = told key xs ys (λ a b inside there. own a b (Contains-append_right (x ∷ []) xs a inside) (Contains-append_right (y ∷ []) ys b there)) (ap (drop 1) same) in
+    let others : xs ≡ ys = reported key xs ys (λ a b inside there. own a b (Contains-append_right (x ∷ []) xs a inside) (Contains-append_right (y ∷ []) ys b there)) (ap (drop 1) same) in
     ap (λ a. a ∷ xs) first ∙ ap (λ l. y ∷ l) others
 
 -- the keys of what is in order are in order
@@ -57,7 +57,7 @@ module _ (p : Program) (items others : List Item) (own : HaveOwnSymbols p items)
   unit_one : (u v : ObjUnit) → IsUnitOf p (whole_crate p items) u → IsUnitOf p (whole_crate p others) v → u ≡ v
   unit_one u v a b =
       let symbols = sorted_one (map symbol_of u.defs) (map symbol_of v.defs) (IsPermutation-map symbol_of u.defs v.defs (same_defs u v a b)) (keys_sorted u.defs a.sorted) (keys_sorted v.defs b.sorted) in
-      let defs = told symbol_of u.defs v.defs (λ d e inside there key.
+      let defs = reported symbol_of u.defs v.defs (λ d e inside there key.
       let x = def_from p items u a own d inside in
       let y = def_from p others v b own_too e there in
       let symbol : item_symbol p x.0 ≡ item_symbol p y.0 = sym (def_symbol p External x.0) ∙ ap symbol_of (sym x.2) ∙ key ∙ ap symbol_of y.2 ∙ def_symbol p External y.0 in

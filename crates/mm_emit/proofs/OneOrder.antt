@@ -116,6 +116,6 @@ one_order (x ∷ xs) (y ∷ ys) a b same =
     let others : xs ≡ ys = one_order xs ys a.1 b.1 (λ line. omega (arith, same line, sum_by-cons (is_one line) x xs, sum_by-cons (is_one line) y ys, ap (is_one line) first)) in
     ap (λ l. l ∷ xs) first ∙ ap (λ l. y ∷ l) others
 
--- lines in order are told by the lines alone
+-- lines in order are reported by the lines alone
 pub sorted_one : (xs ys : List (List ℕ)) → IsPermutation xs ys → IsSorted order xs → IsSorted order ys → xs ≡ ys
 sorted_one xs ys p s t = one_order xs ys (in_order xs s) (in_order ys t) (λ line. sym (sum_by-IsPermutation (is_one line) xs ys p))

@@ -13,9 +13,9 @@ use Rattle.std.proofs.lemmas.Slice.Eq.{bytes_eq-Decides}
 use Rattle.mm_terms.specs.declared.tree.Tree.{Tree}
 use Rattle.mm_terms.specs.declared.item.Item.{Item}
 use Rattle.mm_terms.specs.declared.item.Item.TheVariants.{Fn, Glue, Shim, Static}
-use Rattle.mm_collect.specs.declared.program.Program.{Program}
-use Rattle.mm_collect.specs.declared.program.Function.{Function}
-use Rattle.mm_collect.specs.Roots.{item_of}
+use Rattle.mm_program.specs.declared.program.Program.{Program}
+use Rattle.mm_program.specs.declared.program.Function.{Function}
+use Rattle.mm_program.specs.Roots.{main_item}
 use Rattle.mm_objects.specs.declared.objects.Objects.{Objects}
 use Rattle.mm_objects.specs.declared.objects.ObjUnit.{ObjUnit}
 use Rattle.mm_objects.specs.declared.objects.ObjDef.{ObjDef}
@@ -23,97 +23,7 @@ use Rattle.mm_objects.specs.declared.objects.Linkage.{Linkage}
 use Rattle.mm_objects.specs.declared.objects.Linkage.TheVariants.{External}
 use Rattle.mm_objects.specs.Resolution.{Placed, placed, resolve, is_own, is_shared, is_external, defines, symbol_of, link_of}
 use Rattle.mm_objects.specs.Emitted.{AreObjectsOf, AllResolve, HaveOwnSymbols, IsOf, IsUnitOf, Resolves, UseThemselves, AreUnitsOf, code_of, def_of, item_symbol, whole_crate}
-
--- ---- lists
-
-module _ {X : Type 0} where
-  only_at : (k : ℕ) (x y : X) → k < 1 → get_or (x ∷ []) k y ≡ y → y ≡ x
-  only_at zero x y within is = sym is
-  only_at (suc k) x y within is = absurd (omega (arith, within))
-
-  only : (x y : X) → Contains (x ∷ []) y → y ≡ x
-  only x y here = only_at here.0 x y here.1 here.2
-
-  either : (x : X) (xs : List X) (y : X) → Contains (x ∷ []) y ⊎ Contains xs y → (y ≡ x) ⊎ Contains xs y
-  either x xs y (inl first) = inl (only x y first)
-  either x xs y (inr other) = inr other
-
-  pub first_or_other : (x : X) (xs : List X) (y : X) → Contains (x ∷ xs) y → (y ≡ x) ⊎ Contains xs y
-  first_or_other x xs y here = either x xs y (Contains-append_cases (x ∷ []) xs y here)
-
-  pub later : (x : X) (xs : List X) (y : X) → Contains xs y → Contains (x ∷ xs) y
-  later x xs y here = Contains-append_right (x ∷ []) xs y here
-
-  first : (x y : X) (xs : List X) → y ≡ x → Contains (x ∷ xs) y
-  first x y xs is = (0, omega arith, sym is)
-
-  -- what is found stands in the list, and the test holds of it
-  abbrev pub Found : (X → Bool) → List X → X → Type 0
-  Found test xs y = (test y ≡ true) × Contains xs y
-
-  found_here : (test : X → Bool) (x : X) (xs : List X) (y : X) (b : Bool) → test x ≡ b → ((z : X) → find test xs ≡ Some z → Found test xs z) → cond b (Some x) (find test xs) ≡ Some y → Found test (x ∷ xs) y
-  found_here test x xs y true is others found =
-      let same : x ≡ y = ap (λ o. unwrap_or o x) found in
-      (ap test (sym same) ∙ is, first x y xs (sym same))
-  found_here test x xs y false is others found = let there = others y found in (there.0, later x xs y there.1)
-
-  -- a list that has one of which the test holds is not left without
-  missed_here : (test : X → Bool) (x : X) (xs : List X) (y : X) (b : Bool) → test x ≡ b → test y ≡ true → ((z : X) → Contains xs z → test z ≡ true → find test xs ≡ None → ⊥) → (y ≡ x) ⊎ Contains xs y → cond b (Some x) (find test xs) ≡ None → ⊥
-  missed_here test x xs y true is holds others place none = absurd (none-some x (sym none))
-  missed_here test x xs y false is holds others (inl here) none = absurd (false≢true (sym is ∙ ap test (sym here) ∙ holds))
-  missed_here test x xs y false is holds others (inr there) none = others y there holds none
-
-  pub find_is : (test : X → Bool) (xs : List X) (y : X) → find test xs ≡ Some y → Found test xs y
-  find_is test [] y found = absurd (none-some y found)
-  find_is test (x ∷ xs) y found = found_here test x xs y (test x) refl (find_is test xs) found
-
-  pub find_misses : (test : X → Bool) (xs : List X) (y : X) → Contains xs y → test y ≡ true → find test xs ≡ None → ⊥
-  find_misses test [] y here holds none = absurd (omega (arith, here.1))
-  find_misses test (x ∷ xs) y here holds none = missed_here test x xs y (test x) refl holds (find_misses test xs) (first_or_other x xs y here) none
-
-module _ {X : Type 0} where
-  -- numbered elements are elements
-  numbered_in : (n : ℕ) (x : X) (xs : List X) (e : ℕ × X) → (Contains (enumerate_from (n + 1) xs) e → Contains xs e.1) → (e ≡ (n, x)) ⊎ Contains (enumerate_from (n + 1) xs) e → Contains (x ∷ xs) e.1
-  numbered_in n x xs e others (inl is) = first x e.1 xs (ap (λ q. q.1) is)
-  numbered_in n x xs e others (inr there) = later x xs e.1 (others there)
-
-  numbered : (n : ℕ) (xs : List X) (e : ℕ × X) → Contains (enumerate_from n xs) e → Contains xs e.1
-  numbered n [] e here = absurd (omega (arith, here.1))
-  numbered n (x ∷ xs) e here = numbered_in n x xs e (numbered (n + 1) xs e) (first_or_other {X = ℕ × X} (n, x) (enumerate_from (n + 1) xs) e here)
-
-  -- and each element has a number
-  number_in : (n : ℕ) (x : X) (xs : List X) (y : X) → (Contains xs y → (k : ℕ) × Contains (enumerate_from (n + 1) xs) (k, y)) → (y ≡ x) ⊎ Contains xs y → (k : ℕ) × Contains (enumerate_from n (x ∷ xs)) (k, y)
-  number_in n x xs y others (inl is) = (n, first {X = ℕ × X} (n, x) (n, y) (enumerate_from (n + 1) xs) (ap (λ z. (n, z)) is))
-  number_in n x xs y others (inr there) = let k = others there in (k.0, later {X = ℕ × X} (n, x) (enumerate_from (n + 1) xs) (k.0, y) k.1)
-
-  number : (n : ℕ) (xs : List X) (y : X) → Contains xs y → (k : ℕ) × Contains (enumerate_from n xs) (k, y)
-  number n [] y here = absurd (omega (arith, here.1))
-  number n (x ∷ xs) y here = number_in n x xs y (number (n + 1) xs y) (first_or_other x xs y here)
-
-module _ {X Y : Type 0} (f : X → Y) where
-  -- an element is mapped to an element, and each comes from one
-  mapped_in : (x : X) (xs : List X) (y : X) → (Contains xs y → Contains (map f xs) (f y)) → (y ≡ x) ⊎ Contains xs y → Contains (map f (x ∷ xs)) (f y)
-  mapped_in x xs y others (inl is) = first (f x) (f y) (map f xs) (ap f is)
-  mapped_in x xs y others (inr there) = later (f x) (map f xs) (f y) (others there)
-
-  pub mapped : (xs : List X) (y : X) → Contains xs y → Contains (map f xs) (f y)
-  mapped [] y here = absurd (omega (arith, here.1))
-  mapped (x ∷ xs) y here = mapped_in x xs y (mapped xs y) (first_or_other x xs y here)
-
-  abbrev ComesFrom : List X → Y → Type 0
-  ComesFrom xs y = (x : X) × Contains xs x × (y ≡ f x)
-
-  comes_in : (x : X) (xs : List X) (y : Y) → (Contains (map f xs) y → ComesFrom xs y) → (y ≡ f x) ⊎ Contains (map f xs) y → ComesFrom (x ∷ xs) y
-  comes_in x xs y others (inl is) = (x, first x x xs refl, is)
-  comes_in x xs y others (inr there) = let from = others there in (from.0, later x xs from.0 from.1, from.2)
-
-  pub comes_from : (xs : List X) (y : Y) → Contains (map f xs) y → ComesFrom xs y
-  comes_from [] y here = absurd (omega (arith, here.1))
-  comes_from (x ∷ xs) y here = comes_in x xs y (comes_from xs y) (first_or_other (f x) (map f xs) y here)
-
-pub and_right : (a b : Bool) → (a && b) ≡ true → b ≡ true
-and_right true b is = is
-and_right false b is = absurd (false≢true is)
+use Rattle.mm_terms.proofs.ListLemmas.{and_right, find-Some, find-None, Contains-from_map, Contains-map, Contains-enumerate, Contains-enumerated}
 
 -- ---- definitions
 
@@ -154,15 +64,15 @@ module _ (p : Program) (items : List Item) (u : ObjUnit) (is : IsUnitOf p (whole
   pub def_from : (d : ObjDef) → Contains u.defs d → (x : Item) × Contains items x × (d ≡ def_of p External x)
   def_from d here =
       let there = Contains-permutation u.defs (map made (map shared items)) d (IsPermutation-sym (map made (map shared items)) u.defs is.of_items) here in
-      let one = comes_from made (map shared items) d there in
-      let x = comes_from shared items one.0 one.1 in
+      let one = Contains-from_map made (map shared items) d there in
+      let x = Contains-from_map shared items one.0 one.1 in
       (x.0, x.1, one.2 ∙ ap made x.2)
 
   -- what is placed is a definition of the unit
   pub placed_cases : (one : Placed) → Contains (map at (enumerate_from 0 u.defs)) one ⊎ Contains [] one → Contains u.defs one.def
   placed_cases one (inl here) =
-      let e = comes_from at (enumerate_from 0 u.defs) one here in
-      subst (Contains u.defs) (sym (ap (λ o. o.def) e.2)) (numbered 0 u.defs e.0 e.1)
+      let e = Contains-from_map at (enumerate_from 0 u.defs) one here in
+      subst (Contains u.defs) (sym (ap (λ o. o.def) e.2)) (Contains-enumerate 0 u.defs e.0 e.1)
   placed_cases one (inr none) = absurd (omega (arith, none.1))
 
   pub placed_from : (one : Placed) → Contains (placed (u ∷ [])) one → Contains u.defs one.def
@@ -184,10 +94,10 @@ module _ (p : Program) (items : List Item) (u : ObjUnit) (is : IsUnitOf p (whole
   -- each item has a definition that all may refer to
   pub there_is : (y : Item) → Contains items y → (one : Placed) × Contains (placed (u ∷ [])) one × (is_shared (item_symbol p y) one ≡ true)
   there_is y member =
-      let def = Contains-permutation (map made (map shared items)) u.defs (def_of p External y) is.of_items (mapped made (map shared items) (y, External) (mapped shared items y member)) in
-      let k = number 0 u.defs (def_of p External y) def in
+      let def = Contains-permutation (map made (map shared items)) u.defs (def_of p External y) is.of_items (Contains-map made (map shared items) (y, External) (Contains-map shared items y member)) in
+      let k = Contains-enumerated 0 u.defs (def_of p External y) def in
       let one = at (k.0, def_of p External y) in
-      (one, Contains-append_left (map at (enumerate_from 0 u.defs)) [] one (mapped at (enumerate_from 0 u.defs) (k.0, def_of p External y) k.1), is_shared_def y k.0)
+      (one, Contains-append_left (map at (enumerate_from 0 u.defs)) [] one (Contains-map at (enumerate_from 0 u.defs) (k.0, def_of p External y) k.1), is_shared_def y k.0)
 
   resolved_own : (unit : ℕ) (y : Item) (one : Placed) → find (is_own unit (item_symbol p y)) (placed (u ∷ [])) ≡ Some one → resolve (u ∷ []) unit (item_symbol p y) ≡ Some one
   unfolding resolve
@@ -199,14 +109,14 @@ module _ (p : Program) (items : List Item) (u : ObjUnit) (is : IsUnitOf p (whole
 
   by_cases : (unit : ℕ) (y : Item) → Contains items y → (o s : Option Placed) → find (is_own unit (item_symbol p y)) (placed (u ∷ [])) ≡ o → find (is_shared (item_symbol p y)) (placed (u ∷ [])) ≡ s → Resolves p items (u ∷ []) unit y
   by_cases unit y member (Some one) s at_own at_shared =
-      let found = find_is (is_own unit (item_symbol p y)) (placed (u ∷ [])) one at_own in
-      record { found = one; there = resolved_own unit y one at_own; of_item = names y member one found.1 (and_right (one.unit == unit) (defines (item_symbol p y) one) found.0) }
+      let found = find-Some (is_own unit (item_symbol p y)) (placed (u ∷ [])) one at_own in
+      record { found = one; there = resolved_own unit y one at_own; of_item = names y member one found.0 (and_right (one.unit == unit) (defines (item_symbol p y) one) found.1) }
   by_cases unit y member None (Some one) at_own at_shared =
-      let found = find_is (is_shared (item_symbol p y)) (placed (u ∷ [])) one at_shared in
-      record { found = one; there = resolved_shared unit y one at_own at_shared; of_item = names y member one found.1 (and_right (is_external (link_of one.def)) (defines (item_symbol p y) one) found.0) }
+      let found = find-Some (is_shared (item_symbol p y)) (placed (u ∷ [])) one at_shared in
+      record { found = one; there = resolved_shared unit y one at_own at_shared; of_item = names y member one found.0 (and_right (is_external (link_of one.def)) (defines (item_symbol p y) one) found.1) }
   by_cases unit y member None None at_own at_shared =
       let one = there_is y member in
-      absurd (find_misses (is_shared (item_symbol p y)) (placed (u ∷ [])) one.0 one.1 one.2 at_shared)
+      absurd (find-None (is_shared (item_symbol p y)) (placed (u ∷ [])) one.0 at_shared one.1 one.2)
 
   pub resolved : (unit : ℕ) (y : Item) → Contains items y → Resolves p items (u ∷ []) unit y
   resolved unit y member = by_cases unit y member (find (is_own unit (item_symbol p y)) (placed (u ∷ []))) (find (is_shared (item_symbol p y)) (placed (u ∷ []))) refl refl
@@ -222,5 +132,5 @@ module _ (p : Program) (items : List Item) where
   pub all_resolve : (objects : Objects) → HaveOwnSymbols p items → UseThemselves p items → AreObjectsOf p (whole_crate p items ∷ []) objects → AllResolve p items objects.units
   all_resolve objects own uses are one x y there of_item used = units_resolve objects.units are.units own one.unit y (uses x y of_item.compiled used)
 
-  pub main_resolves : (objects : Objects) → HaveOwnSymbols p items → Contains items (item_of p.main.0) → AreObjectsOf p (whole_crate p items ∷ []) objects → Resolves p items objects.units 0 (item_of p.main.0)
-  main_resolves objects own main are = units_resolve objects.units are.units own 0 (item_of p.main.0) main
+  pub main_resolves : (objects : Objects) → HaveOwnSymbols p items → Contains items (main_item p) → AreObjectsOf p (whole_crate p items ∷ []) objects → Resolves p items objects.units 0 (main_item p)
+  main_resolves objects own main are = units_resolve objects.units are.units own 0 (main_item p) main

@@ -2,14 +2,13 @@
 use Rattle.std.proofs.Common.{◌≡◌, List, [], ◌∷◌, None, refl, ◌∙◌, ap}
 use Rattle.std.specs.List.{find}
 use Rattle.mm_terms.specs.declared.item.Item.{Item}
-use Rattle.mm_collect.specs.declared.program.Program.{Program}
-use Rattle.mm_collect.specs.Roots.{item_of}
+use Rattle.mm_program.specs.declared.program.Program.{Program}
+use Rattle.mm_program.specs.Roots.{main_item}
 use Rattle.mm_objects.specs.declared.objects.Objects.{Objects}
 use Rattle.mm_objects.specs.declared.objects.ObjUnit.{ObjUnit}
 use Rattle.mm_objects.specs.Emitted.{AreObjectsOf, AreUnitsOf, item_symbol, whole_crate}
-use Rattle.mm_objects.specs.Resolution.{placed, is_shared}
-use Rattle.mm_link.specs.Index.{shared_in}
-use Rattle.mm_link.specs.Linking.{HasNoClash, first_undefined}
+use Rattle.mm_objects.specs.Resolution.{placed, is_shared, shared_in}
+use Rattle.mm_objects.specs.Linking.{HasNoClash, first_undefined}
 use Rattle.mm_machines.proofs.Simulation.{simulates}
 use Rattle.mm_emit.specs.Complete.{IsComplete}
 use Rattle.mm_emit.specs.Faithful.{RunAs}
@@ -30,7 +29,7 @@ module _ (p : Program) (items : List Item) (is : IsComplete p items) where
       record {
         one = no_clash p items is u are.0;
         all = all_defined p items is u are.0;
-        main = main_found p items is u are.0 (find (is_shared (item_symbol p (item_of p.main.0))) (placed (u ∷ []))) refl;
+        main = main_found p items is u are.0 (find (is_shared (item_symbol p (main_item p))) (placed (u ∷ []))) refl;
       }
   units_whole (u ∷ v ∷ more) are = absurd are.1
 

@@ -4,9 +4,9 @@ use Rattle.std.specs.List.{IsDistinct}
 use Rattle.mm_terms.specs.declared.item.Item.{Item}
 use Rattle.mm_terms.specs.Order.{types_of}
 use Rattle.mm_terms.specs.Same.{same_item}
-use Rattle.mm_collect.specs.Roots.{item_of}
-use Rattle.mm_collect.specs.WellFormed.{IsWellFormed, IsInstanceIn}
-use Rattle.mm_collect.specs.declared.program.Program.{Program}
+use Rattle.mm_program.specs.Roots.{main_item}
+use Rattle.mm_program.specs.WellFormed.{IsWellFormed, IsInstanceIn}
+use Rattle.mm_program.specs.declared.program.Program.{Program}
 use Rattle.mm_lex.specs.LexTokens.{IsName}
 use Rattle.mm_objects.specs.Emitted.{UseThemselves}
 use Rattle.mm_symbols.specs.ItemForms.{HasNames, depth_of}
@@ -20,6 +20,6 @@ pub record IsComplete (p : Program) (items : List Item) : Type 0 where
   pub names : HasNames p
   pub instances : All (IsInstanceIn p) items
   pub once : IsDistinct same_item items
-  pub main : Contains items (item_of p.main.0)
+  pub main : Contains items (main_item p)
   pub uses : UseThemselves p items
   pub shallow : All (λ x. All (λ t. depth_of t ≤ 4096) (types_of x)) items

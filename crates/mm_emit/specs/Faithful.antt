@@ -1,11 +1,11 @@
 -- Objects that do what their program does.
 use Rattle.std.specs.Prelude.{◌≡◌, ℕ}
-use Rattle.mm_collect.specs.declared.program.Program.{Program}
+use Rattle.mm_program.specs.declared.program.Program.{Program}
 use Rattle.mm_objects.specs.declared.objects.Objects.{Objects}
 use Rattle.mm_machines.specs.Demand.{observed_demand}
 use Rattle.mm_machines.specs.Image.{observed_image}
-use Rattle.mm_link.specs.Linking.{IsLinked}
-use Rattle.mm_link.specs.declared.linked.Linked.{Linked}
+use Rattle.mm_objects.specs.Linking.{IsLinked}
+use Rattle.mm_objects.specs.declared.target.Linked.{Linked}
 
 -- the objects are linked, and after any number of steps what is seen of their image is what is seen of the program
 pub record RunAs (p : Program) (objects : Objects) : Type 0 where

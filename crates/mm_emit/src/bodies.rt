@@ -4,8 +4,8 @@ ghost use Rattle.std.specs.Prelude.{◌≡◌, map, All, IfOk};
 ghost use Rattle.mm_objects.specs.Emitted.{place_of, operand_of, rvalue_of, instr_of};
 ghost use Rattle.mm_emit.specs.Numbers.{FitsOperand, FitsRvalue, FitsInstr};
 
-use mm_collect::{Operand, Place, Rvalue, Statement};
 use mm_objects::{ObjBase, ObjInstr, ObjOperand, ObjPlace, ObjRvalue};
+use mm_program::{Operand, Place, Rvalue, Statement};
 use mm_terms::NoMemory;
 use sqlite_items::Items;
 use std::alloc::Global;

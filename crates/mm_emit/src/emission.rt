@@ -6,13 +6,13 @@ ghost use Rattle.std.specs.Cmp.Lexicographic.{slice_cmp};
 ghost use Rattle.std.specs.Ordering.{nat_cmp};
 ghost use Rattle.mm_objects.specs.declared.objects.Linkage.TheVariants.{External};
 ghost use Rattle.mm_objects.specs.Emitted.{AreObjectsOf, IsUnitOf, def_of, item_symbol, whole_crate};
-ghost use Rattle.mm_collect.specs.Roots.{item_of};
+ghost use Rattle.mm_program.specs.Roots.{main_item};
 ghost use Rattle.mm_objects.specs.Resolution.{symbol_of};
 ghost use Rattle.mm_emit.specs.Numbers.{FitsDef, FitsUnit, NumbersFit};
 
 use crate::definitions::definition;
-use mm_collect::Program;
 use mm_objects::{Linkage, ObjDef, ObjUnit, Objects};
+use mm_program::Program;
 use mm_symbols::symbol;
 use mm_terms::{Item, NoMemory, Text};
 use sqlite_items::Items;
@@ -59,7 +59,7 @@ fn unit_name(alloc: Global, krate: &[u8]) -> Result<Text, NoMemory>
 
 /// The symbol of the item that a run begins with.
 fn main_symbol(alloc: Global, p: &Program) -> Result<Text, NoMemory>
-    ensures { IfOk result (λ text. text ≡ item_symbol p.now (item_of p.now.main.0)) }
+    ensures { IfOk result (λ text. text ≡ item_symbol p.now (main_item p.now)) }
 {
     symbol(alloc, p, &Item::Fn(p.main, Items::new(alloc)))
 }
@@ -81,7 +81,7 @@ fn whole_unit(alloc: Global, p: &Program, items: &[Item]) -> Result<ObjUnit, NoM
 /// The objects of the items of a program: one unit, in which every definition is External.
 ///
 /// An item that is no instance of a function of the program has no block. A body has fewer than 2^32 locals, as every
-/// body that was loaded from a text; a greater one is answered with want of memory. The numbers that are written out are
+/// body that was loaded from a text; a greater one is answered with out of memory. The numbers that are written out are
 /// those of the program, each below 2^64.
 pub fn emit_one(alloc: Global, p: &Program, items: &[Item]) -> Result<Objects, NoMemory>
     ensures objects { IfOk result (AreObjectsOf p.now (whole_crate p.now items.now ∷ [])) }

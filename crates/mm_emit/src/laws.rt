@@ -3,8 +3,8 @@
 ghost use Rattle.std.specs.Prelude.{◌≡◌, List, [], ◌∷◌, Contains, length};
 ghost use Rattle.std.specs.List.Sorted.{IsPermutation};
 ghost use Rattle.mm_terms.specs.declared.item.Item.{Item};
-ghost use Rattle.mm_collect.specs.declared.program.Program.{Program};
-ghost use Rattle.mm_collect.specs.Roots.{item_of};
+ghost use Rattle.mm_program.specs.declared.program.Program.{Program};
+ghost use Rattle.mm_program.specs.Roots.{main_item};
 ghost use Rattle.mm_objects.specs.declared.objects.Objects.{Objects};
 ghost use Rattle.mm_objects.specs.ObjectForms.{AreObjects};
 ghost use Rattle.mm_emit.specs.Complete.{IsComplete};
@@ -20,8 +20,8 @@ pub fn references()
         HaveOwnSymbols p items → UseThemselves p items → AreObjectsOf p (whole_crate p items ∷ []) objects →
         AllResolve p items objects.units }
     ensures main { (p : Program) (items : List Item) (objects : Objects) →
-        HaveOwnSymbols p items → Contains items (item_of p.main.0) → AreObjectsOf p (whole_crate p items ∷ []) objects →
-        Resolves p items objects.units 0 (item_of p.main.0) }
+        HaveOwnSymbols p items → Contains items (main_item p) → AreObjectsOf p (whole_crate p items ∷ []) objects →
+        Resolves p items objects.units 0 (main_item p) }
 {}
 
 /// Where no two of the items have one symbol, they are compiled to one list of objects, in whatever order they are handed

@@ -5,7 +5,7 @@ use Rattle.std.specs.Option.{option_map}
 use Rattle.std.specs.Char.{is_ascii_digit, is_ascii_alphabetic, is_ascii_alphanumeric}
 use Rattle.std.specs.Str.{chars, all_scalars, encode_utf8_all}
 use Rattle.std.specs.Fmt.{decimal}
-use Rattle.std.proofs.lemmas.Bool.{leb-true, le-leb, eqb-true}
+use Rattle.std.proofs.lemmas.Bool.{and_parts, leb-true, le-leb, eqb-true}
 use Rattle.std.proofs.lemmas.Bool.Decides.{nat_tests}
 use Rattle.std.proofs.lemmas.Option.{cond_some, same_Some, none-some}
 use Rattle.std.proofs.lemmas.Str.{chars-encodes, encodes-chars, encodes_same}
@@ -20,7 +20,6 @@ use Rattle.mm_lex.specs.declared.token.TokenKind.TheVariants as kinds
 use Rattle.mm_lex.specs.LexWords.{word_spelling}
 use Rattle.mm_lex.specs.LexTokens.{spelling, starts_name, IsNameLike, is_local_like, is_label_like, IsName, IsToken, lengthens}
 use Rattle.mm_lex.specs.LexReading.{number_in, word_in, word_or_name, named_in, run_in}
-use Rattle.mm_lex.proofs.LexRunLemmas.{both}
 use Rattle.mm_lex.proofs.LexNumberLemmas.{number_in-writes, number_in-decimal, decimal-digits}
 use Rattle.mm_lex.proofs.LexWordLemmas.{word_in-word_spelling, word_in_spells, is_ascii_word, word_spelling-plain}
 
@@ -39,7 +38,7 @@ mapped f (Some x) y h = (x, refl, cc)
 local_found : (cs : List ℕ) (kind : TokenKind) → is_local_like cs ≡ true → option_map kinds.Local (number_in 65535 (drop 1 cs)) ≡ Some kind → IsFound cs kind
 local_found [] kind like found = cc
 local_found (c ∷ ds) kind like found =
-    let parts = both (eqb c 95) (list_all is_ascii_digit ds) like in
+    let parts = and_parts (eqb c 95) (list_all is_ascii_digit ds) like in
     let number = mapped kinds.Local (number_in 65535 ds) kind found in
     let writes = number_in-writes 65535 number.0 ds (omega arith) number.1 in
     let first : c ≡ 95 = eqb-true c 95 parts.0 in
@@ -50,8 +49,8 @@ label_found [] kind like found = cc
 label_found (b ∷ []) kind like found = cc
 label_found (b ∷ c ∷ []) kind like found = cc
 label_found (b ∷ c ∷ d ∷ ds) kind like found =
-    let parts = both (eqb b 98 && eqb c 98) (list_all is_ascii_digit (d ∷ ds)) like in
-    let letters = both (eqb b 98) (eqb c 98) parts.0 in
+    let parts = and_parts (eqb b 98 && eqb c 98) (list_all is_ascii_digit (d ∷ ds)) like in
+    let letters = and_parts (eqb b 98) (eqb c 98) parts.0 in
     let number = mapped kinds.Label (number_in 65535 (d ∷ ds)) kind found in
     let writes = number_in-writes 65535 number.0 (d ∷ ds) (omega arith) number.1 in
     let first : b ≡ 98 = eqb-true b 98 letters.0 in
@@ -130,7 +129,7 @@ digits_continue ds digits =
 ascii_word_like : (cs : List ℕ) → is_ascii_word cs ≡ true → IsNameLike cs
 ascii_word_like [] is = cc
 ascii_word_like (c ∷ cs) is =
-    let parts = both (is_ascii_alphabetic c) (list_all is_ascii_alphanumeric cs) is in (
+    let parts = and_parts (is_ascii_alphabetic c) (list_all is_ascii_alphanumeric cs) is in (
       alphabetic_starts c parts.0,
       All-weaker (λ d. is_ascii_alphanumeric d ≡ true) (λ d. is_xid_continue d ≡ true) alphanumeric_continues cs (AllPass-from_list_all is_ascii_alphanumeric cs parts.1),
     )

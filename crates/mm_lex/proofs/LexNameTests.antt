@@ -11,14 +11,13 @@ use Rattle.mm_lex.specs.declared.token.TokenKind.TheVariants as kinds
 use Rattle.mm_lex.specs.LexTokens.{starts_name, IsNameLike, IsName}
 use Rattle.mm_lex.specs.LexReading.{run_in}
 use Rattle.mm_lex.specs.LexNames.{is_name_like, is_named, is_name_run, is_name}
-use Rattle.mm_lex.proofs.LexRunLemmas.{both}
 use Rattle.mm_lex.proofs.LexNameLemmas.{run_in-found, name_run}
-use Rattle.std.proofs.lemmas.Bool.{false_from_ne_true}
+use Rattle.std.proofs.lemmas.Bool.{and_parts, false_from_ne_true}
 
 like : (cs : List ℕ) → is_name_like cs ≡ true → IsNameLike cs
 like [] h = cc
 like (c ∷ cs) h =
-    let parts = both (starts_name c) (list_all is_xid_continue cs) h in
+    let parts = and_parts (starts_name c) (list_all is_xid_continue cs) h in
     (parts.0, AllPass-from_list_all is_xid_continue cs parts.1)
 
 test_like : (cs : List ℕ) → IsNameLike cs → is_name_like cs ≡ true
@@ -31,15 +30,15 @@ named (Some (kinds.Word w)) h = cc
 named (Some (kinds.Local n)) h = cc
 named (Some (kinds.Label n)) h = cc
 named (Some (kinds.Number n)) h = cc
-named (Some (kinds.Mark m)) h = cc
+named (Some (kinds.Punct m)) h = cc
 named None h = cc
 
 pub is_name-sound : (bytes : List ℕ) → is_name bytes ≡ true → IsName bytes
 unfolding is_name is_name_run
 is_name-sound bytes h =
     let cs = chars bytes in
-    let parts = both (is_utf8 bytes) (is_name_like cs && is_named (run_in cs)) h in
-    let tests = both (is_name_like cs) (is_named (run_in cs)) parts.1 in
+    let parts = and_parts (is_utf8 bytes) (is_name_like cs && is_named (run_in cs)) h in
+    let tests = and_parts (is_name_like cs) (is_named (run_in cs)) parts.1 in
     let utf8 = IsUtf8-from_is_utf8 bytes parts.0 in
     let name = named (run_in cs) tests.1 in
     let found = run_in-found cs (kinds.Name name.0) (scalars-chars bytes utf8) (like cs tests.0) name.1 in

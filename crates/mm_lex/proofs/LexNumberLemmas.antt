@@ -6,11 +6,10 @@ use Rattle.std.specs.Char.{is_ascii_digit, digit_value}
 use Rattle.std.specs.Str.Parse.{digits_value, AllDigits}
 use Rattle.std.proofs.lemmas.Bool.Decides.{nat_tests}
 use Rattle.std.specs.Fmt.{decimal}
-use Rattle.std.proofs.lemmas.Bool.{false≢true, leb-true, le-leb}
+use Rattle.std.proofs.lemmas.Bool.{and_parts, false≢true, leb-true, le-leb}
 use Rattle.std.proofs.lemmas.Option.{cond_some}
 use Rattle.std.proofs.lemmas.Fmt.{decimal_digit, first_decimal, decimal_nonempty, digits_decimal, digits_value-decimal, decimal-digits_value}
 use Rattle.std.proofs.lemmas.Str.Parse.{IsNumeralModel, numerals_by_value, digits_value-take-le}
-use Rattle.mm_lex.proofs.LexRunLemmas.{both}
 use Rattle.mm_lex.specs.LexReading.{is_numeral, number_in}
 
 -- the words for digits here are those of std
@@ -21,13 +20,13 @@ digits_model = numerals_by_value _ (search rules)
 pub is_numeral-digits : (ds : List ℕ) → is_numeral ds ≡ true → list_all is_ascii_digit ds ≡ true
 is_numeral-digits [] h = refl
 is_numeral-digits (c ∷ []) h = rw h refl
-is_numeral-digits (c ∷ d ∷ ds) h = (both (not (eqb c 48)) (list_all is_ascii_digit (c ∷ d ∷ ds)) h).1
+is_numeral-digits (c ∷ d ∷ ds) h = (and_parts (not (eqb c 48)) (list_all is_ascii_digit (c ∷ d ∷ ds)) h).1
 
--- where a front of the digits is too great already, the number is
+-- where a prefix of the digits is too great already, the number is
 pub number_in-large : (limit : ℕ) (ds : List ℕ) (i : ℕ) → limit < digits_value 10 (take i ds) → number_in limit ds ≡ None
 unfolding number_in
 number_in-large limit ds i large =
-    let front_le : digits_value 10 (take i ds) ≤ digits_value 10 ds = digits_value-take-le 10 ds i (omega arith) in
+    let prefix_le : digits_value 10 (take i ds) ≤ digits_value 10 ds = digits_value-take-le 10 ds i (omega arith) in
     grind (arith, nat_tests)
 
 all_digit_at : (ds : List ℕ) (i : ℕ) → AllDigits 10 ds → i < length ds → digit_value (get_or ds i 0) < 10
@@ -54,20 +53,20 @@ is_numeral-nonempty (c ∷ ds) h = omega arith
 
 -- no zero leads another digit
 is_numeral-lead : (ds : List ℕ) → is_numeral ds ≡ true → get_or ds 0 0 ≡ 48 → length ds ≡ 1
-is_numeral-lead [] h zero_leads = cc
-is_numeral-lead (c ∷ []) h zero_leads = refl
-is_numeral-lead (c ∷ d ∷ ds) h zero_leads =
-    let no_zero = (both (not (eqb c 48)) (list_all is_ascii_digit (c ∷ d ∷ ds)) h).0 in
-    absurd (false≢true (rw zero_leads at no_zero))
+is_numeral-lead [] h leading_zero = cc
+is_numeral-lead (c ∷ []) h leading_zero = refl
+is_numeral-lead (c ∷ d ∷ ds) h leading_zero =
+    let no_zero = (and_parts (not (eqb c 48)) (list_all is_ascii_digit (c ∷ d ∷ ds)) h).0 in
+    absurd (false≢true (rw leading_zero at no_zero))
 
 not_equal : (a b : ℕ) → (a ≡ b → ⊥) → eqb a b ≡ false
 not_equal a b apart = grind (arith, nat_tests)
 
 is_numeral-from : (ds : List ℕ) → list_all is_ascii_digit ds ≡ true → 0 < length ds → (get_or ds 0 0 ≡ 48 → length ds ≡ 1) → is_numeral ds ≡ true
 is_numeral-from [] digits some lead = absurd (omega arith)
-is_numeral-from (c ∷ []) digits some lead = (both (is_ascii_digit c) true digits).0
+is_numeral-from (c ∷ []) digits some lead = (and_parts (is_ascii_digit c) true digits).0
 is_numeral-from (c ∷ d ∷ ds) digits some lead =
-    let no_zero : eqb c 48 ≡ false = not_equal c 48 (λ zero_leads. absurd (omega (arith, lead zero_leads))) in
+    let no_zero : eqb c 48 ≡ false = not_equal c 48 (λ leading_zero. absurd (omega (arith, lead leading_zero))) in
     rw (no_zero, digits) refl
 
 -- what is read is what the number writes
@@ -75,14 +74,14 @@ pub number_in-writes : (limit n : ℕ) (ds : List ℕ) → limit < 2 ^ 64 → nu
 unfolding number_in
 number_in-writes limit n ds small h =
     let parts = cond_some (is_numeral ds && leb (digits_value 10 ds) limit) (digits_value 10 ds) n h in
-    let tests = both (is_numeral ds) (leb (digits_value 10 ds) limit) parts.0 in
+    let tests = and_parts (is_numeral ds) (leb (digits_value 10 ds) limit) parts.0 in
     let few : digits_value 10 ds ≤ limit = leb-true (digits_value 10 ds) limit tests.1 in
     let writes : decimal (digits_value 10 ds) ≡ ds = decimal-digits_value digits_model ds (is_numeral-digits ds tests.0) (is_numeral-nonempty ds tests.0) (is_numeral-lead ds tests.0) (omega arith) in
     (subst (λ m. decimal m ≡ ds) parts.1 writes, omega (arith, parts.1))
 
 decimal-lead : (n : ℕ) → n < 2 ^ 64 → get_or (decimal n) 0 0 ≡ 48 → length (decimal n) ≡ 1
-decimal-lead zero h zero_leads = ap length (decimal_digit 0 (omega arith))
-decimal-lead (suc n) h zero_leads = absurd (omega (arith, first_decimal (suc n) (omega arith) h))
+decimal-lead zero h leading_zero = ap length (decimal_digit 0 (omega arith))
+decimal-lead (suc n) h leading_zero = absurd (omega (arith, first_decimal (suc n) (omega arith) h))
 
 -- a number writes digits, and one at least
 pub decimal-digits : (n : ℕ) → n < 2 ^ 64 → list_all is_ascii_digit (decimal n) ≡ true

@@ -1,25 +1,18 @@
 -- The word that some bytes spell is one.
-use Rattle.std.proofs.Common.{◌≡◌, ◌≢◌, ℕ, Bool, true, false, cond, not, ◌&&◌, List, [], ◌∷◌, Option, Some, None, IfSome, IfNone, refl, sym, subst}
+use Rattle.std.proofs.Common.{◌≡◌, ◌≢◌, ℕ, Bool, true, false, not, ◌&&◌, List, [], ◌∷◌, Option, Some, None, IfSome, IfNone, refl, sym, subst}
+use Rattle.std.proofs.lemmas.Bool.{and_parts}
 use Rattle.std.specs.List.{find, list_all}
 use Rattle.std.specs.Char.{is_ascii_alphabetic, is_ascii_alphanumeric, encode_utf8}
 use Rattle.std.specs.Str.{bytes_eq, encode_utf8_all}
 use Rattle.std.proofs.lemmas.Slice.Eq.{bytes_eq-Decides}
-use Rattle.std.proofs.lemmas.Option.{same_Some}
+use Rattle.std.proofs.lemmas.List.Elements.{All-contains}
+use Rattle.std.proofs.lemmas.List.Sums.{AllPass-from_list_all}
+use Rattle.mm_terms.proofs.ListLemmas.{find-Some}
 use Rattle.mm_lex.specs.declared.word.Word.{Word}
 use Rattle.mm_lex.specs.declared.word.Word.TheVariants as words
 use Rattle.mm_lex.specs.LexWords.{word_spelling}
 use Rattle.mm_lex.specs.LexTokens.{is_local_like, is_label_like}
 use Rattle.mm_lex.specs.LexReading.{all_words, word_in}
-use Rattle.mm_lex.proofs.LexRunLemmas.{both}
-
--- what is found passes the test
-find_passes : {X : Type 0} (test : X → Bool) (xs : List X) (x : X) → find test xs ≡ Some x → test x ≡ true
-find_passes test [] x h = cc
-find_passes test (y ∷ ys) x h = head_or_later (find_passes test ys x) (test y) refl h
-  where
-    head_or_later : (find test ys ≡ Some x → test x ≡ true) → (b : Bool) → test y ≡ b → cond b (Some y) (find test ys) ≡ Some x → test x ≡ true
-    head_or_later later true is found = cc
-    head_or_later later false is found = later found
 
 -- each word is found by its spelling
 pub word_in-word_spelling : (word : Word) → word_in (word_spelling word) ≡ Some word
@@ -79,7 +72,7 @@ word_in-word_spelling words.FnItem = refl
 pub word_in_spells : (bytes : List ℕ) (word : Word) → word_in bytes ≡ Some word → word_spelling word ≡ bytes
 unfolding word_in
 word_in_spells bytes word h =
-    (bytes_eq-Decides (word_spelling word) bytes).0 (find_passes (λ w. bytes_eq (word_spelling w) bytes) all_words word h)
+    (bytes_eq-Decides (word_spelling word) bytes).0 (find-Some (λ w. bytes_eq (word_spelling w) bytes) all_words word h).1
 
 -- there is one answer to which word the bytes spell
 pub word_in_is : (bytes : List ℕ) (r : Option Word) → IfSome r (λ word. word_spelling word ≡ bytes) → IfNone r ((word : Word) → word_spelling word ≢ bytes) → r ≡ word_in bytes
@@ -92,14 +85,7 @@ word_in_is bytes None spells none = no_word (word_in bytes) refl
 
 -- what passes each of a list passes what is found in it
 all_found : {X : Type 0} (test holds : X → Bool) (xs : List X) (x : X) → list_all holds xs ≡ true → find test xs ≡ Some x → holds x ≡ true
-all_found test holds [] x all found = cc
-all_found {X = X} test holds (y ∷ ys) x all found =
-    let parts = both (holds y) (list_all holds ys) all in
-    head_or_later (all_found test holds ys x parts.1) parts.0 (test y) found
-  where
-    head_or_later : (find test ys ≡ Some x → holds x ≡ true) → holds y ≡ true → (b : Bool) → cond b (Some y) (find test ys) ≡ Some x → holds x ≡ true
-    head_or_later later here true is = subst (λ (z : X). holds z ≡ true) (same_Some y x is) here
-    head_or_later later here false is = later is
+all_found test holds xs x all found = All-contains (λ y. holds y ≡ true) xs x (AllPass-from_list_all holds xs all) (find-Some test xs x found).0
 
 -- an ASCII letter, and then ASCII letters and digits
 abbrev pub is_ascii_word : List ℕ → Bool
@@ -133,9 +119,9 @@ word_spelling-plain word =
     let cs = word_spelling word in
     let plain = all_found (λ w. bytes_eq (word_spelling w) cs) is_plain all_words word plain_words (word_in-word_spelling word) in
     let ascii = is_ascii_word cs in
-    let first = both (ascii && not (is_local_like cs) && not (is_label_like cs)) (bytes_eq (encode_utf8_all cs) cs) plain in
-    let second = both (ascii && not (is_local_like cs)) (not (is_label_like cs)) first.0 in
-    let third = both ascii (not (is_local_like cs)) second.0 in
+    let first = and_parts (ascii && not (is_local_like cs) && not (is_label_like cs)) (bytes_eq (encode_utf8_all cs) cs) plain in
+    let second = and_parts (ascii && not (is_local_like cs)) (not (is_label_like cs)) first.0 in
+    let third = and_parts ascii (not (is_local_like cs)) second.0 in
     record {
       ascii = third.0;
       no_local = not_true (is_local_like cs) third.1;

@@ -1,5 +1,5 @@
-pub mod LexFrontLaws
-pub mod LexMarkLemmas
+pub mod LexPrefixLaws
+pub mod LexPunctLemmas
 pub mod LexNameBytes
 pub mod LexNameLemmas
 pub mod LexNameTests

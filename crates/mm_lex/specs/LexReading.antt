@@ -1,4 +1,4 @@
--- What stands at the front of a text, as the lexer finds it.
+-- With what a text begins, as the lexer finds it.
 use Rattle.std.specs.Prelude.{◌≡◌, ℕ, ◌-◌, ◌^◌, ◌==◌, ◌&&◌, Bool, false, not, List, [], ◌∷◌, length, if◌then◌else◌, Option, Some, None, Result, Ok, Err, nat_le, slice_index, take, drop}
 use Rattle.std.specs.List.{prefix_len, find, list_all}
 use Rattle.std.specs.Option.{option_map}
@@ -8,14 +8,14 @@ use Rattle.std.specs.Str.Parse.{digits_value}
 use Rattle.unicode_ident.specs.Ident.{is_xid_continue}
 use Rattle.mm_lex.specs.declared.word.Word.{Word}
 use Rattle.mm_lex.specs.declared.word.Word.TheVariants as words
-use Rattle.mm_lex.specs.declared.mark.Mark.{Mark}
-use Rattle.mm_lex.specs.declared.mark.Mark.TheVariants as marks
+use Rattle.mm_lex.specs.declared.punct.Punct.{Punct}
+use Rattle.mm_lex.specs.declared.punct.Punct.TheVariants as puncts
 use Rattle.mm_lex.specs.declared.token.TokenKind.{TokenKind}
 use Rattle.mm_lex.specs.declared.token.TokenKind.TheVariants as kinds
 use Rattle.mm_lex.specs.declared.text_error.TextError.{TextError}
 use Rattle.mm_lex.specs.declared.text_error.TextError.TheVariants.{BadText, NoMemory}
 use Rattle.mm_lex.specs.LexWords.{word_spelling}
-use Rattle.mm_lex.specs.LexMarks.{mark_spelling}
+use Rattle.mm_lex.specs.LexPuncts.{punct_spelling}
 use Rattle.mm_lex.specs.LexTokens.{starts_name, is_local_like, is_label_like}
 use Rattle.mm_lex.specs.LexText.{is_blank, is_within_line}
 
@@ -66,59 +66,59 @@ run_in cs =
     else (if is_label_like cs then option_map kinds.Label (number_in 65535 (drop 2 cs))
     else named_in (encode_utf8_all cs))
 
--- the mark that two characters begin with
-abbrev pub mark_at : ℕ → ℕ → Option Mark
-mark_at c d =
-    if (c == 58) && (d == 58) then Some marks.PathSep
-    else (if (c == 45) && (d == 62) then Some marks.Arrow
-    else (if (c == 61) && (d == 62) then Some marks.FatArrow
-    else (if c == 40 then Some marks.Open
-    else (if c == 41 then Some marks.Close
-    else (if c == 123 then Some marks.OpenBrace
-    else (if c == 125 then Some marks.CloseBrace
-    else (if c == 60 then Some marks.Less
-    else (if c == 62 then Some marks.Greater
-    else (if c == 91 then Some marks.OpenBracket
-    else (if c == 93 then Some marks.CloseBracket
-    else (if c == 44 then Some marks.Comma
-    else (if c == 59 then Some marks.Semicolon
-    else (if c == 58 then Some marks.Colon
-    else (if c == 46 then Some marks.Dot
-    else (if c == 42 then Some marks.Star
-    else (if c == 64 then Some marks.At
-    else (if c == 38 then Some marks.Ampersand
-    else (if c == 61 then Some marks.Equals
+-- the punctuation token that two characters begin with
+abbrev pub punct_at : ℕ → ℕ → Option Punct
+punct_at c d =
+    if (c == 58) && (d == 58) then Some puncts.PathSep
+    else (if (c == 45) && (d == 62) then Some puncts.Arrow
+    else (if (c == 61) && (d == 62) then Some puncts.FatArrow
+    else (if c == 40 then Some puncts.Open
+    else (if c == 41 then Some puncts.Close
+    else (if c == 123 then Some puncts.OpenBrace
+    else (if c == 125 then Some puncts.CloseBrace
+    else (if c == 60 then Some puncts.Less
+    else (if c == 62 then Some puncts.Greater
+    else (if c == 91 then Some puncts.OpenBracket
+    else (if c == 93 then Some puncts.CloseBracket
+    else (if c == 44 then Some puncts.Comma
+    else (if c == 59 then Some puncts.Semicolon
+    else (if c == 58 then Some puncts.Colon
+    else (if c == 46 then Some puncts.Dot
+    else (if c == 42 then Some puncts.Star
+    else (if c == 64 then Some puncts.At
+    else (if c == 38 then Some puncts.Ampersand
+    else (if c == 61 then Some puncts.Equals
     else None))))))))))))))))))
 
--- the mark at the front
-unfoldable pub mark_in : List ℕ → Option Mark
-mark_in text = mark_at (slice_index text 0) (slice_index text 1)
+-- the punctuation token with which a text begins
+unfoldable pub punct_in : List ℕ → Option Punct
+punct_in text = punct_at (slice_index text 0) (slice_index text 1)
 
 -- a token of so many characters, where there is one
 abbrev pub with_length : ℕ → Option TokenKind → Option (Option TokenKind × ℕ)
 with_length n None = None
 with_length n (Some kind) = Some (Some kind, n)
 
--- the run of characters at the front that a name may have
+-- the longest prefix of characters that a name may have
 abbrev pub run_at : List ℕ → Option (Option TokenKind × ℕ)
 run_at text = let n = prefix_len is_xid_continue text in with_length n (run_in (take n text))
 
--- the run of digits at the front
+-- the longest prefix of digits
 abbrev pub number_at : List ℕ → Option (Option TokenKind × ℕ)
 number_at text = let n = prefix_len is_ascii_digit text in with_length n (option_map kinds.Number (number_in (2 ^ 64 - 1) (take n text)))
 
-abbrev pub mark_front : Option Mark → Option (Option TokenKind × ℕ)
-mark_front None = None
-mark_front (Some mark) = Some (Some (kinds.Mark mark), length (mark_spelling mark))
+abbrev pub punct_prefix : Option Punct → Option (Option TokenKind × ℕ)
+punct_prefix None = None
+punct_prefix (Some punct) = Some (Some (kinds.Punct punct), length (punct_spelling punct))
 
 abbrev pub begins_comment : List ℕ → Bool
 begins_comment text = (slice_index text 0 == 47) && (slice_index text 1 == 47)
 
--- What stands at the front of a text: a token or, as `None`, a blank or a comment; and how many characters it takes.
-unfoldable pub front_in : List ℕ → Option (Option TokenKind × ℕ)
-front_in text =
+-- With what a text begins: a token or, as `None`, a blank or a comment; and how many characters it takes.
+unfoldable pub prefix_in : List ℕ → Option (Option TokenKind × ℕ)
+prefix_in text =
     if is_blank (slice_index text 0) then Some (None, 1)
     else (if begins_comment text then Some (None, prefix_len is_within_line text)
     else (if starts_name (slice_index text 0) then run_at text
     else (if is_ascii_digit (slice_index text 0) then number_at text
-    else mark_front (mark_in text))))
+    else punct_prefix (punct_in text))))

@@ -3,7 +3,7 @@ use Rattle.std.specs.Prelude.{◌≡◌, ℕ, ◌+◌, ◌||◌, ◌==◌, Bool,
 use Rattle.std.specs.List.{AllPass}
 use Rattle.std.specs.Str.{IsUtf8, chars}
 use Rattle.mm_lex.specs.declared.token.TokenKind.{TokenKind}
-use Rattle.mm_lex.specs.declared.token.Place.{Place}
+use Rattle.mm_lex.specs.declared.token.Position.{Position}
 use Rattle.mm_lex.specs.declared.token.Token.{Token}
 use Rattle.mm_lex.specs.LexTokens.{spelling, IsToken, lengthens}
 
@@ -49,24 +49,24 @@ abbrev pub AreCut : List Piece → Type 0
 AreCut [] = Unit {0}
 AreCut (piece ∷ pieces) = IsPiece piece × StopsAt (goes_on piece) (flat_map written pieces) × AreCut pieces
 
--- the place behind a character: the next column, and behind LF the next line
-abbrev pub past : Place → ℕ → Place
+-- the position behind a character: the next column, and behind LF the next line
+abbrev pub past : Position → ℕ → Position
 past at c = if c == 10 then record { line = at.line + 1; column = 1 } else record { line = at.line; column = at.column + 1 }
 
--- the place where a text begins
-abbrev pub text_start : Place
+-- the position where a text begins
+abbrev pub text_start : Position
 text_start = record { line = 1; column = 1 }
 
--- the tokens among the pieces, each with the place of its first character
-abbrev pub tokens_from : Place → List Piece → List Token
+-- the tokens among the pieces, each with the position of its first character
+abbrev pub tokens_from : Position → List Piece → List Token
 tokens_from at [] = []
 tokens_from at (Blank c ∷ pieces) = tokens_from (past at c) pieces
 tokens_from at (Comment line ∷ pieces) = tokens_from (fold past at (written (Comment line))) pieces
 tokens_from at (Lexeme kind ∷ pieces) = record { kind = kind; at = at } ∷ tokens_from (fold past at (spelling kind)) pieces
 
--- The characters, of which the first stands at the place, have these tokens: they are cut into pieces,
+-- The characters, of which the first stands at the position, have these tokens: they are cut into pieces,
 -- and these are the tokens among them.
-pub record HaveTokens (at : Place) (text : List ℕ) (tokens : List Token) : Type 0 where
+pub record HaveTokens (at : Position) (text : List ℕ) (tokens : List Token) : Type 0 where
   pub pieces : List Piece
   pub cut : AreCut pieces
   pub whole : flat_map written pieces ≡ text

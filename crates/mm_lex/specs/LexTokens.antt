@@ -6,12 +6,12 @@ use Rattle.std.specs.Str.{IsUtf8, chars}
 use Rattle.std.specs.Fmt.{decimal}
 use Rattle.unicode_ident.specs.Ident.{is_xid_start, is_xid_continue}
 use Rattle.mm_lex.specs.declared.word.Word.{Word}
-use Rattle.mm_lex.specs.declared.mark.Mark.{Mark}
-use Rattle.mm_lex.specs.declared.mark.Mark.TheVariants.{Colon, Equals}
+use Rattle.mm_lex.specs.declared.punct.Punct.{Punct}
+use Rattle.mm_lex.specs.declared.punct.Punct.TheVariants.{Colon, Equals}
 use Rattle.mm_lex.specs.declared.token.TokenKind.{TokenKind}
 use Rattle.mm_lex.specs.declared.token.TokenKind.TheVariants as kinds
 use Rattle.mm_lex.specs.LexWords.{word_spelling}
-use Rattle.mm_lex.specs.LexMarks.{mark_spelling}
+use Rattle.mm_lex.specs.LexPuncts.{punct_spelling}
 
 -- the characters of a token
 abbrev pub spelling : TokenKind → List ℕ
@@ -20,7 +20,7 @@ spelling (kinds.Word word) = word_spelling word
 spelling (kinds.Local n) = codes "_" ++ decimal n
 spelling (kinds.Label n) = codes "bb" ++ decimal n
 spelling (kinds.Number n) = decimal n
-spelling (kinds.Mark mark) = mark_spelling mark
+spelling (kinds.Punct punct) = punct_spelling punct
 
 -- `_`, or a character that may start an identifier
 abbrev pub starts_name : ℕ → Bool
@@ -59,16 +59,16 @@ IsToken (kinds.Word word) = Unit {0}
 IsToken (kinds.Local n) = n ≤ 65535
 IsToken (kinds.Label n) = n ≤ 65535
 IsToken (kinds.Number n) = n < 2 ^ 64
-IsToken (kinds.Mark mark) = Unit {0}
+IsToken (kinds.Punct punct) = Unit {0}
 
--- the characters that make a mark longer: `::` and `=>` are taken before `:` and `=`
-abbrev pub lengthens_mark : Mark → ℕ → Bool
-lengthens_mark Colon = λ c. c == 58
-lengthens_mark Equals = λ c. c == 62
-lengthens_mark _ = λ c. false
+-- the characters that make punctuation longer: `::` and `=>` are taken before `:` and `=`
+abbrev pub lengthens_punct : Punct → ℕ → Bool
+lengthens_punct Colon = λ c. c == 58
+lengthens_punct Equals = λ c. c == 62
+lengthens_punct _ = λ c. false
 
 -- the characters that make a token longer, of which none stands behind it
 abbrev pub lengthens : TokenKind → ℕ → Bool
 lengthens (kinds.Number n) = is_ascii_digit
-lengthens (kinds.Mark mark) = lengthens_mark mark
+lengthens (kinds.Punct punct) = lengthens_punct punct
 lengthens _ = is_xid_continue

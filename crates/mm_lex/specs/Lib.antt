@@ -1,4 +1,4 @@
-pub mod LexMarks
+pub mod LexPuncts
 pub mod LexReading
 pub mod LexNames
 pub mod LexText

@@ -4,7 +4,7 @@ ghost use Rattle.unicode_ident.specs.Ident.{is_xid_continue};
 ghost use Rattle.mm_lex.specs.LexTokens.{IsName};
 ghost use Rattle.mm_lex.specs.LexNames.{is_name_like, is_name_run, is_name};
 
-use crate::front::starts_name;
+use crate::prefix::starts_name;
 use crate::run::kind_of_run;
 use crate::scan::characters_of;
 use crate::text_error::TextError;

@@ -3,9 +3,9 @@ ghost use Rattle.std.specs.Str.{all_scalars, chars};
 ghost use Rattle.mm_lex.specs.LexText.{AreTokensOf, HaveTokens, text_start};
 ghost use Rattle.mm_lex.specs.declared.token.Token.{Token};
 
-use crate::front::front;
+use crate::prefix::prefix;
 use crate::text_error::TextError;
-use crate::token::{Place, Token};
+use crate::token::{Position, Token};
 use std::alloc::{AllocError, Global};
 
 /// The tokens of a text of at most 4,194,304 bytes, in order.
@@ -42,10 +42,10 @@ fn tokens(alloc: Global, text: &[char]) -> Result<Vec<Token>, TextError>
         HaveTokens text_start text.now tokens → ⊥ }
 {
     let mut tokens = Vec::new(alloc);
-    let mut at = Place::START;
+    let mut at = Position::START;
     let mut rest = text;
     while !rest.is_empty() {
-        let (kind, len) = front(alloc, rest)?;
+        let (kind, len) = prefix(alloc, rest)?;
         if let Some(kind) = kind {
             tokens.push(Token { kind, at })?;
         }

@@ -1,12 +1,12 @@
 ghost use Rattle.std.specs.Prelude.{◌≡◌, ◌≤◌, ◌<◌, ◌+◌, ◌^◌, length, fold};
 ghost use Rattle.mm_lex.specs.LexText.{past};
 
-use crate::mark::Mark;
+use crate::punct::Punct;
 use crate::word::Word;
 use mm_terms::Text;
 
 /// What a token is.
-#[derive(Debug, Drop)]
+#[derive(Drop)]
 pub enum TokenKind {
     /// A name, by its bytes: at most 255, and UTF-8.
     Name(Text),
@@ -16,27 +16,27 @@ pub enum TokenKind {
     /// `bb` and a number: a block of a body, at most 65,535.
     Label(u32),
     Number(u64),
-    Mark(Mark),
+    Punct(Punct),
 }
 
-/// A place in a text.
-#[derive(Clone, Copy, Debug, PartialEq, Eq, PartialOrd, Ord, Hash)]
-pub struct Place {
-    /// The line, from 1. Lines are parted by LF.
+/// A position in a text.
+#[derive(Clone, Copy, PartialEq, Eq)]
+pub struct Position {
+    /// The line, from 1. Lines are separated by LF.
     pub line: u32,
     /// The column, from 1. Columns count characters.
     pub column: u32,
 }
 
-impl Place {
-    /// The place where a text begins.
-    pub const START: Place = Place { line: 1, column: 1 };
+impl Position {
+    /// The position where a text begins.
+    pub const START: Position = Position { line: 1, column: 1 };
 
-    /// The place behind some characters, the first of which stands at this place.
-    pub fn after(self, passed: &[char]) -> Place
+    /// The position behind some characters, the first of which stands at this position.
+    pub fn after(self, passed: &[char]) -> Position
         requires line { self.line + length passed.now < 2 ^ 32 }
         requires column { self.column + length passed.now < 2 ^ 32 }
-        ensures place { result ≡ fold past self passed.now }
+        ensures position { result ≡ fold past self passed.now }
         ensures line { result.line ≤ self.line + length passed.now }
         ensures column { result.column ≤ self.column + length passed.now }
     {
@@ -53,9 +53,9 @@ impl Place {
     }
 }
 
-/// A token, and the place of its first character.
-#[derive(Debug, Drop)]
+/// A token, and the position of its first character.
+#[derive(Drop)]
 pub struct Token {
     pub kind: TokenKind,
-    pub at: Place,
+    pub at: Position,
 }

@@ -3,7 +3,7 @@ ghost use Rattle.mm_lex.specs.LexWords.{word_spelling};
 ghost use Rattle.mm_lex.specs.declared.word.Word.{Word};
 
 /// A word of the language: a name-like run of characters that is no name.
-#[derive(Clone, Copy, Debug, PartialEq, Eq, Hash)]
+#[derive(Clone, Copy, PartialEq, Eq)]
 pub enum Word {
     Crate,
     Mod,

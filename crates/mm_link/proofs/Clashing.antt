@@ -7,62 +7,25 @@ use Rattle.std.specs.Option.{option_map, option_or}
 use Rattle.std.specs.declared.cmp.Ordering.{Ordering}
 use Rattle.std.specs.declared.cmp.Ordering.TheVariants.{Less, Equal, Greater}
 use Rattle.std.proofs.Common.{◌∙◌, refl, sym, ap, subst, arith, inl, inr, ⊎_elim}
-use Rattle.std.proofs.lemmas.List.Elements.{Contains-append_left, Contains-append_right}
+use Rattle.std.proofs.lemmas.List.Elements.{Contains-append_left, Contains-append_right, Contains-append_cases}
 use Rattle.std.proofs.lemmas.Slice.Eq.{bytes_eq-Decides}
 use Rattle.mm_objects.specs.declared.objects.ObjDef.{ObjDef}
 use Rattle.mm_objects.specs.declared.objects.ObjUnit.{ObjUnit}
-use Rattle.mm_objects.specs.Resolution.{Placed, defines, is_own, is_shared, placed, placed_in, symbol_of}
-use Rattle.mm_machines.specs.Image.{target_of}
-use Rattle.mm_machines.specs.declared.target.Target.{Target}
+use Rattle.mm_objects.specs.Resolution.{Placed, defines, is_own, is_shared, placed, placed_in, symbol_of, target_of, shared_in}
+use Rattle.mm_objects.specs.declared.target.Target.{Target}
 use Rattle.mm_link.specs.Clashes.{IsLeast}
-use Rattle.mm_link.specs.Index.{open_in, own_in, placed_at, shared_in}
-use Rattle.mm_link.specs.Linking.{HasNoClash, IsClash, clash_cmp, earlier, is_open, target_cmp, told}
-use Rattle.mm_link.specs.declared.clash.Clash.{Clash}
+use Rattle.mm_link.specs.Index.{open_in, own_in, placed_at}
+use Rattle.mm_link.specs.Linking.{earlier, reported}
+use Rattle.mm_objects.specs.Linking.{HasNoClash, IsClash, clash_cmp, is_open, target_cmp}
+use Rattle.mm_objects.specs.declared.target.Clash.{Clash}
 use Rattle.std.proofs.Math.Bool.{false≢true}
 use Rattle.std.proofs.lemmas.Cmp.{nat_list_cmp_total, ranked}
 use Rattle.std.specs.Cmp.Lexicographic.{slice_cmp}
 use Rattle.mm_link.proofs.Finding.{same_number}
-use Rattle.mm_link.proofs.Names.{find_append}
+use Rattle.mm_terms.proofs.ListLemmas.{find-append, Contains-here, Contains-cons_cases, Contains-nil, find-Some, find-None, Contains-from_flat_map, Contains-flat_map, and_left, and_right, and_true}
 use Rattle.mm_link.proofs.Least.{clash_cmp_total, target_cmp_total, not_less_itself, less_via, less_through, equal_itself, is_lt_less, less_is_lt}
 
--- ---- what stands in lists
-
-contains_here : {X : Type 0} (x : X) (xs : List X) → Contains (x ∷ xs) x
-contains_here x xs = (0, omega arith, refl)
-
-contains_behind : {X : Type 0} (y : X) (xs : List X) (x : X) → Contains xs x → Contains (y ∷ xs) x
-contains_behind y xs x has = Contains-append_right (y ∷ []) xs x has
-
-head_or_tail : {X : Type 0} (y : X) (xs : List X) (x : X) → Contains (y ∷ xs) x → (y ≡ x) ⊎ Contains xs x
-head_or_tail y xs x (zero, lt, e) = inl e
-head_or_tail y xs x (suc k, lt, e) = inr (k, omega (arith, lt), e)
-
-not_in_none : {X : Type 0} (x : X) → Contains [] x → ⊥
-not_in_none x has = absurd (omega (arith, has.1))
-
-left_or_right : {X : Type 0} (xs ys : List X) (x : X) → Contains (xs ++ ys) x → Contains xs x ⊎ Contains ys x
-left_or_right [] ys x has = inr has
-left_or_right (y ∷ xs) ys x has =
-    ⊎_elim (λ e. inl (0, omega arith, e))
-    (λ rest. ⊎_elim (λ l. inl (contains_behind y xs x l)) (λ r. inr r) (left_or_right xs ys x rest))
-    (head_or_tail y (xs ++ ys) x has)
-
--- what is found is in the list and passes
-found_in : {X : Type 0} (p : X → Bool) (xs : List X) (x : X) → find p xs ≡ Some x → Contains xs x × (p x ≡ true)
-found_in p [] x e = absurd (cc e)
-found_in p (y ∷ ys) x e = at (found_in p ys x) (p y) refl e
-  where
-    at : (find p ys ≡ Some x → Contains ys x × (p x ≡ true)) → (b : Bool) → p y ≡ b → cond b (Some y) (find p ys) ≡ Some x → Contains (y ∷ ys) x × (p x ≡ true)
-    at again true t f = let same : y ≡ x = cc f in ((0, omega arith, same), ap p (sym same) ∙ t)
-    at again false t f = let rest = again f in (contains_behind y ys x rest.0, rest.1)
-
-none_found : {X : Type 0} (p : X → Bool) (xs : List X) (x : X) → find p xs ≡ None → Contains xs x → p x ≡ true → ⊥
-none_found p [] x e has t = not_in_none x has
-none_found p (y ∷ ys) x e has t = at (none_found p ys x) (p y) refl e
-  where
-    at : (find p ys ≡ None → Contains ys x → p x ≡ true → ⊥) → (b : Bool) → p y ≡ b → cond b (Some y) (find p ys) ≡ None → ⊥
-    at again true s f = absurd (cc f)
-    at again false s f = ⊎_elim (λ q. false≢true (sym s ∙ ap p q ∙ t)) (λ rest. again f rest t) (head_or_tail y ys x has)
+-- ---- lists
 
 found_or_none : {X : Type 0} (o : Option X) → ((x : X) × (o ≡ Some x)) ⊎ (o ≡ None)
 found_or_none None = inr refl
@@ -82,23 +45,23 @@ not_before t u how lt =
     how
 
 place_bounds : (n m : ℕ) (ds : List ObjDef) (c : Placed) → Contains (map (placed_at n) (enumerate_from m ds)) c → (c.unit ≡ n) × (m ≤ c.number)
-place_bounds n m [] c has = absurd (not_in_none c has)
+place_bounds n m [] c has = absurd (Contains-nil c has)
 place_bounds n m (d ∷ ds) c has =
     ⊎_elim (λ e. (sym (ap (λ one. one.unit) e), let k : m ≡ c.number = ap (λ one. one.number) e in omega (arith, k)))
     (λ rest. let bounds = place_bounds n (m + 1) ds c rest in (bounds.0, omega (arith, bounds.1)))
-    (head_or_tail (placed_at n (m, d)) (map (placed_at n) (enumerate_from (m + 1) ds)) c has)
+    (Contains-cons_cases (placed_at n (m, d)) (map (placed_at n) (enumerate_from (m + 1) ds)) c has)
 
 unit_bounds : (n : ℕ) (us : List ObjUnit) (c : Placed) → Contains (flat_map placed_in (enumerate_from n us)) c → n ≤ c.unit
-unit_bounds n [] c has = absurd (not_in_none c has)
+unit_bounds n [] c has = absurd (Contains-nil c has)
 unit_bounds n (u ∷ us) c has =
     ⊎_elim (λ l. let e = (place_bounds n 0 u.defs c l).0 in omega (arith, e))
     (λ r. let le = unit_bounds (n + 1) us c r in omega (arith, le))
-    (left_or_right (placed_in (n, u)) (flat_map placed_in (enumerate_from (n + 1) us)) c has)
+    (Contains-append_cases (placed_in (n, u)) (flat_map placed_in (enumerate_from (n + 1) us)) c has)
 
 module _ (p : Placed → Bool) where
   -- the first of a unit that passes is before no other
   first_of_unit : (n m : ℕ) (ds : List ObjDef) (e c : Placed) → find p (map (placed_at n) (enumerate_from m ds)) ≡ Some e → Contains (map (placed_at n) (enumerate_from m ds)) c → p c ≡ true → target_cmp (target_of c) (target_of e) ≢ Less
-  first_of_unit n m [] e c f has t = absurd (not_in_none c has)
+  first_of_unit n m [] e c f has t = absurd (Contains-nil c has)
   first_of_unit n m (d ∷ ds) e c f has t = at (first_of_unit n (m + 1) ds e c) (p (placed_at n (m, d))) refl f
     where
       rest : List Placed
@@ -111,14 +74,14 @@ module _ (p : Placed → Bool) where
           (⊎_elim
           (λ q. subst (λ one. target_cmp (target_of one) (target_of (placed_at n (m, d))) ≢ Less) q (not_less_itself target_cmp target_cmp_total (target_of (placed_at n (m, d)))))
           (λ behind. let bounds = place_bounds n (m + 1) ds c behind in not_before (target_of c) (target_of (placed_at n (m, d))) (inr (bounds.0, omega (arith, bounds.1))))
-          (head_or_tail (placed_at n (m, d)) rest c has))
-      at again false s g = ⊎_elim (λ q. absurd (false≢true (sym s ∙ ap p q ∙ t))) (λ behind. again g behind t) (head_or_tail (placed_at n (m, d)) rest c has)
+          (Contains-cons_cases (placed_at n (m, d)) rest c has))
+      at again false s g = ⊎_elim (λ q. absurd (false≢true (sym s ∙ ap p q ∙ t))) (λ behind. again g behind t) (Contains-cons_cases (placed_at n (m, d)) rest c has)
 
   -- the first of all that passes is before no other
   first_of_all : (n : ℕ) (us : List ObjUnit) (e c : Placed) → find p (flat_map placed_in (enumerate_from n us)) ≡ Some e → Contains (flat_map placed_in (enumerate_from n us)) c → p c ≡ true → target_cmp (target_of c) (target_of e) ≢ Less
-  first_of_all n [] e c f has t = absurd (not_in_none c has)
+  first_of_all n [] e c f has t = absurd (Contains-nil c has)
   first_of_all n (u ∷ us) e c f has t =
-      at (first_of_all (n + 1) us e c) (find p here) refl (sym (find_append p here rest) ∙ f)
+      at (first_of_all (n + 1) us e c) (find p here) refl (sym (find-append p here rest) ∙ f)
     where
       here : List Placed
       here = placed_in (n, u)
@@ -127,57 +90,39 @@ module _ (p : Placed → Bool) where
       rest = flat_map placed_in (enumerate_from (n + 1) us)
 
       at : (find p rest ≡ Some e → Contains rest c → p c ≡ true → target_cmp (target_of c) (target_of e) ≢ Less) → (o : Option Placed) → find p here ≡ o → option_or o (find p rest) ≡ Some e → target_cmp (target_of c) (target_of e) ≢ Less
-      at again None s g = ⊎_elim (λ l. absurd (none_found p here c s l t)) (λ r. again g r t) (left_or_right here rest c has)
+      at again None s g = ⊎_elim (λ l. absurd (find-None p here c s l t)) (λ r. again g r t) (Contains-append_cases here rest c has)
       at again (Some x) s g =
           let is : x ≡ e = cc g in
           let found : find p here ≡ Some e = s ∙ ap (λ y. Some y) is in
           ⊎_elim (λ l. first_of_unit n 0 u.defs e c found l t)
           (λ r.
           let le = unit_bounds (n + 1) us c r in
-          let at_unit = (place_bounds n 0 u.defs e (found_in p here e found).0).0 in
+          let at_unit = (place_bounds n 0 u.defs e (find-Some p here e found).0).0 in
           not_before (target_of c) (target_of e) (inl (omega (arith, le, at_unit))))
-          (left_or_right here rest c has)
+          (Contains-append_cases here rest c has)
 
 -- ---- what the index tells
-
-pub in_flat : {A X : Type 0} (f : A → List X) (xs : List A) (x : X) → Contains (flat_map f xs) x → (a : A) × Contains xs a × Contains (f a) x
-in_flat f [] x has = absurd (not_in_none x has)
-in_flat f (a ∷ xs) x has =
-    ⊎_elim (λ l. (a, contains_here a xs, l)) (λ r. let rest = in_flat f xs x r in (rest.0, contains_behind a xs rest.0 rest.1, rest.2))
-    (left_or_right (f a) (flat_map f xs) x has)
-
-into_flat : {A X : Type 0} (f : A → List X) (xs : List A) (a : A) (x : X) → Contains xs a → Contains (f a) x → Contains (flat_map f xs) x
-into_flat f [] a x in_xs has = absurd (not_in_none a in_xs)
-into_flat f (b ∷ xs) a x in_xs has =
-    ⊎_elim (λ q. Contains-append_left (f b) (flat_map f xs) x (subst (λ c. Contains (f c) x) (sym q) has))
-    (λ rest. Contains-append_right (f b) (flat_map f xs) x (into_flat f xs a x rest has))
-    (head_or_tail b xs a in_xs)
 
 -- the clash of a definition with another
 abbrev clash_of : Placed → Placed → Clash
 clash_of e b = record { symbol = symbol_of b.def; first = target_of e; second = target_of b }
 
--- what is told of what is found
+-- what is reported of what is found
 earlier_is : (o : Option Placed) (b : Placed) (x : Clash) → Contains (earlier (option_map target_of o) (symbol_of b.def) (target_of b)) x → (e : Placed) × (o ≡ Some e) × (clash_of e b ≡ x) × (target_cmp (target_of e) (target_of b) ≡ Less)
-earlier_is None b x has = absurd (not_in_none x has)
+earlier_is None b x has = absurd (Contains-nil x has)
 earlier_is (Some e) b x has = at (is_lt (target_cmp (target_of e) (target_of b))) refl has
   where
     at : (t : Bool) → is_lt (target_cmp (target_of e) (target_of b)) ≡ t → Contains (cond t (clash_of e b ∷ []) []) x → (d : Placed) × (Some e ≡ Some d) × (clash_of d b ≡ x) × (target_cmp (target_of d) (target_of b) ≡ Less)
-    at true s h = ⊎_elim (λ q. (e, refl, q, less_is_lt (target_cmp (target_of e) (target_of b)) s)) (λ rest. absurd (not_in_none x rest)) (head_or_tail (clash_of e b) [] x h)
-    at false s h = absurd (not_in_none x h)
+    at true s h = ⊎_elim (λ q. (e, refl, q, less_is_lt (target_cmp (target_of e) (target_of b)) s)) (λ rest. absurd (Contains-nil x rest)) (Contains-cons_cases (clash_of e b) [] x h)
+    at false s h = absurd (Contains-nil x h)
 
 earlier_has : (o : Option Placed) (b e : Placed) → o ≡ Some e → target_cmp (target_of e) (target_of b) ≡ Less → Contains (earlier (option_map target_of o) (symbol_of b.def) (target_of b)) (clash_of e b)
 earlier_has o b e is lt =
     subst (λ q. Contains (earlier (option_map target_of q) (symbol_of b.def) (target_of b)) (clash_of e b)) (sym is)
-    (subst (λ t. Contains (cond t (clash_of e b ∷ []) []) (clash_of e b)) (sym (is_lt_less (target_cmp (target_of e) (target_of b)) lt)) (contains_here (clash_of e b) []))
+    (subst (λ t. Contains (cond t (clash_of e b ∷ []) []) (clash_of e b)) (sym (is_lt_less (target_cmp (target_of e) (target_of b)) lt)) (Contains-here (clash_of e b) []))
 
 both_true : (a b : Bool) → a && b ≡ true → (a ≡ true) × (b ≡ true)
-both_true true true e = (refl, refl)
-both_true true false e = absurd (false≢true e)
-both_true false b e = absurd (false≢true e)
-
-and_true : (a b : Bool) → a ≡ true → b ≡ true → a && b ≡ true
-and_true a b e f = ap (λ x. x && b) e ∙ f
+both_true a b both = (and_left a b both, and_right a b both)
 
 in_parts : (a b c : Ordering) → a ≡ Equal → b ≢ Less → c ≡ Equal → ordering_then a (ordering_then b c) ≢ Less
 in_parts a Less c e n f lt = n refl
@@ -188,13 +133,13 @@ ordered : {us : List ObjUnit} {y : Clash} (c : IsClash us y) → target_cmp (tar
 ordered c = ap (λ t. target_cmp t (target_of c.second)) (sym c.first_at) ∙ ap (target_cmp _) (sym c.second_at) ∙ c.before
 
 module _ (us : List ObjUnit) where
-  -- what is told is a clash
+  -- what is reported is a clash
 
-  own_told : (b : Placed) (x : Clash) → Contains (placed us) b → Contains (earlier (own_in us b.unit (symbol_of b.def)) (symbol_of b.def) (target_of b)) x → IsClash us x
-  own_told b x b_in has =
+  own_reported : (b : Placed) (x : Clash) → Contains (placed us) b → Contains (earlier (own_in us b.unit (symbol_of b.def)) (symbol_of b.def) (target_of b)) x → IsClash us x
+  own_reported b x b_in has =
       let symbol = symbol_of b.def in
       let it = earlier_is (find (is_own b.unit symbol) (placed us)) b x has in
-      let found = found_in (is_own b.unit symbol) (placed us) it.0 it.1 in
+      let found = find-Some (is_own b.unit symbol) (placed us) it.0 it.1 in
       let parts = both_true (it.0.unit == b.unit) (defines symbol it.0) found.1 in
       let same_unit : it.0.unit ≡ b.unit = grind (arith, parts.0) in
       subst (IsClash us) it.2 (record {
@@ -210,17 +155,17 @@ module _ (us : List ObjUnit) where
         both = inl same_unit;
       })
 
-  open_told : (b : Placed) (x : Clash) → Contains (placed us) b → Contains (earlier (open_in us b.def) (symbol_of b.def) (target_of b)) x → IsClash us x
-  open_told b x b_in has = at (is_open b) refl has
+  open_reported : (b : Placed) (x : Clash) → Contains (placed us) b → Contains (earlier (open_in us b.def) (symbol_of b.def) (target_of b)) x → IsClash us x
+  open_reported b x b_in has = at (is_open b) refl has
     where
       symbol : List ℕ
       symbol = symbol_of b.def
 
       at : (t : Bool) → is_open b ≡ t → Contains (earlier (cond t (shared_in us symbol) None) symbol (target_of b)) x → IsClash us x
-      at false s h = absurd (not_in_none x h)
+      at false s h = absurd (Contains-nil x h)
       at true s h =
           let it = earlier_is (find (is_shared symbol) (placed us)) b x h in
-          let found = found_in (is_shared symbol) (placed us) it.0 it.1 in
+          let found = find-Some (is_shared symbol) (placed us) it.0 it.1 in
           let parts = both_true (is_open it.0) (defines symbol it.0) found.1 in
           subst (IsClash us) it.2 (record {
             first = it.0;
@@ -235,17 +180,17 @@ module _ (us : List ObjUnit) where
             both = inr (parts.0, s);
           })
 
-  pub told_is : (x : Clash) → Contains (flat_map (told us) (placed us)) x → IsClash us x
-  told_is x has =
-      let of = in_flat (told us) (placed us) x has in
-      ⊎_elim (λ l. own_told of.0 x of.1 l) (λ r. open_told of.0 x of.1 r)
-      (left_or_right (earlier (own_in us of.0.unit (symbol_of of.0.def)) (symbol_of of.0.def) (target_of of.0)) (earlier (open_in us of.0.def) (symbol_of of.0.def) (target_of of.0)) x of.2)
+  pub reported_is : (x : Clash) → Contains (flat_map (reported us) (placed us)) x → IsClash us x
+  reported_is x has =
+      let of = Contains-from_flat_map (reported us) (placed us) x has in
+      ⊎_elim (λ l. own_reported of.0 x of.1 l) (λ r. open_reported of.0 x of.1 r)
+      (Contains-append_cases (earlier (own_in us of.0.unit (symbol_of of.0.def)) (symbol_of of.0.def) (target_of of.0)) (earlier (open_in us of.0.def) (symbol_of of.0.def) (target_of of.0)) x of.2)
 
-  -- among what is told is a clash that is not above one
+  -- among what is reported is a clash that is not above one
   pub record NotAbove (y : Clash) : Type 0 where
-    pub told_one : Clash
-    pub among : Contains (flat_map (told us) (placed us)) told_one
-    pub not_above : clash_cmp y told_one ≢ Less
+    pub reported_one : Clash
+    pub among : Contains (flat_map (reported us) (placed us)) reported_one
+    pub not_above : clash_cmp y reported_one ≢ Less
 
   not_less_parts : (y : Clash) (e b : Placed) → y.symbol ≡ symbol_of b.def → y.second ≡ target_of b → target_cmp y.first (target_of e) ≢ Less → clash_cmp y (clash_of e b) ≢ Less
   not_less_parts y e b s t n =
@@ -254,19 +199,19 @@ module _ (us : List ObjUnit) where
       n
       (ap (λ l. target_cmp l (target_of b)) t ∙ equal_itself target_cmp target_cmp_total (target_of b))
 
-  by_first : (y : Clash) (c : IsClash us y) (p : Placed → Bool) (o : Option Placed) → find p (placed us) ≡ o → p c.first ≡ true → ((e : Placed) → Contains (earlier (option_map target_of o) (symbol_of c.second.def) (target_of c.second)) (clash_of e c.second) → Contains (told us c.second) (clash_of e c.second)) → NotAbove y
-  by_first y c p None is passes into = absurd (none_found p (placed us) c.first is c.first_in passes)
+  by_first : (y : Clash) (c : IsClash us y) (p : Placed → Bool) (o : Option Placed) → find p (placed us) ≡ o → p c.first ≡ true → ((e : Placed) → Contains (earlier (option_map target_of o) (symbol_of c.second.def) (target_of c.second)) (clash_of e c.second) → Contains (reported us c.second) (clash_of e c.second)) → NotAbove y
+  by_first y c p None is passes into = absurd (find-None p (placed us) c.first is c.first_in passes)
   by_first y c p (Some e) is passes into =
       let not_earlier : target_cmp (target_of c.first) (target_of e) ≢ Less = first_of_all p 0 us e c.first is c.first_in passes in
       let before : target_cmp (target_of c.first) (target_of c.second) ≡ Less = ordered c in
       let lt : target_cmp (target_of e) (target_of c.second) ≡ Less = less_via target_cmp target_cmp_total (target_of c.first) (target_of c.second) (target_of e) before not_earlier in
       record {
-        told_one = clash_of e c.second;
-        among = into_flat (told us) (placed us) c.second (clash_of e c.second) c.second_in (into e (earlier_has (Some e) c.second e refl lt));
+        reported_one = clash_of e c.second;
+        among = Contains-flat_map (reported us) (placed us) c.second (clash_of e c.second) c.second_in (into e (earlier_has (Some e) c.second e refl lt));
         not_above = not_less_parts y e c.second (sym c.second_symbol) c.second_at (subst (λ t. target_cmp t (target_of e) ≢ Less) (sym c.first_at) not_earlier);
       }
 
-  -- the first own definition, or the first that is open, makes a clash that is told
+  -- the first own definition, or the first that is open, makes a clash that is reported
   pub not_above_all : (y : Clash) → IsClash us y → NotAbove y
   not_above_all y c =
       let symbol = symbol_of c.second.def in
@@ -283,23 +228,23 @@ module _ (us : List ObjUnit) where
       (subst (λ b. Contains (earlier (cond b (shared_in us symbol) None) symbol (target_of c.second)) (clash_of e c.second)) (sym opened.1) has)))
       c.both
 
-  -- where nothing is told, there is no clash
-  pub none_told : flat_map (told us) (placed us) ≡ [] → HasNoClash us
-  none_told none y c = not_in_none (not_above_all y c).told_one (subst (λ l. Contains l (not_above_all y c).told_one) none (not_above_all y c).among)
+  -- where nothing is reported, there is no clash
+  pub none_reported : flat_map (reported us) (placed us) ≡ [] → HasNoClash us
+  none_reported none y c = Contains-nil (not_above_all y c).reported_one (subst (λ l. Contains l (not_above_all y c).reported_one) none (not_above_all y c).among)
 
-  -- the least of what is told is the least of all
-  pub least_told : (x : Clash) → Contains (flat_map (told us) (placed us)) x → All (λ z. clash_cmp z x ≢ Less) (flat_map (told us) (placed us)) → (y : Clash) → IsClash us y → clash_cmp y x ≢ Less
-  least_told x has all y c lt =
+  -- the least of what is reported is the least of all
+  pub least_reported : (x : Clash) → Contains (flat_map (reported us) (placed us)) x → All (λ z. clash_cmp z x ≢ Less) (flat_map (reported us) (placed us)) → (y : Clash) → IsClash us y → clash_cmp y x ≢ Less
+  least_reported x has all y c lt =
       let near = not_above_all y c in
-      near.not_above (less_through clash_cmp clash_cmp_total y x near.told_one lt (at_place near.among all))
+      near.not_above (less_through clash_cmp clash_cmp_total y x near.reported_one lt (at_place near.among all))
     where
-      at_place : {z : Clash} → Contains (flat_map (told us) (placed us)) z → All (λ z. clash_cmp z x ≢ Less) (flat_map (told us) (placed us)) → clash_cmp z x ≢ Less
+      at_place : {z : Clash} → Contains (flat_map (reported us) (placed us)) z → All (λ z. clash_cmp z x ≢ Less) (flat_map (reported us) (placed us)) → clash_cmp z x ≢ Less
       at_place {z} in_all each = subst (λ w. clash_cmp w x ≢ Less) in_all.2 (each in_all.0 z in_all.1)
 
--- the least of a list of what is told
-pub least_of_told : (us : List ObjUnit) (xs : List Clash) (n : ℕ) (x : Clash) → xs ≡ flat_map (told us) (placed us) → IsLeast xs (Some n) → x ≡ get_or xs n x → IsClash us x × ((y : Clash) → IsClash us y → clash_cmp y x ≢ Less)
-least_of_told us xs n x is least at =
-    let has : Contains (flat_map (told us) (placed us)) x = subst (λ l. Contains l x) is (n, least.0, sym at) in
-    let all : All (λ z. clash_cmp z x ≢ Less) (flat_map (told us) (placed us)) =
+-- the least of a list of what is reported
+pub least_of_reported : (us : List ObjUnit) (xs : List Clash) (n : ℕ) (x : Clash) → xs ≡ flat_map (reported us) (placed us) → IsLeast xs (Some n) → x ≡ get_or xs n x → IsClash us x × ((y : Clash) → IsClash us y → clash_cmp y x ≢ Less)
+least_of_reported us xs n x is least at =
+    let has : Contains (flat_map (reported us) (placed us)) x = subst (λ l. Contains l x) is (n, least.0, sym at) in
+    let all : All (λ z. clash_cmp z x ≢ Less) (flat_map (reported us) (placed us)) =
     subst (λ l. All (λ z. clash_cmp z x ≢ Less) l) is (subst (λ w. All (λ z. clash_cmp z w ≢ Less) xs) (sym at) (least.1 x)) in
-    (told_is us x has, least_told us x has all)
+    (reported_is us x has, least_reported us x has all)

@@ -8,11 +8,11 @@ use Rattle.std.proofs.Common.{◌∙◌, refl, sym, ap, arith}
 use Rattle.std.proofs.lemmas.Option.{slice_get-map}
 use Rattle.mm_objects.specs.declared.objects.ObjDef.{ObjDef}
 use Rattle.mm_objects.specs.declared.objects.ObjUnit.{ObjUnit}
-use Rattle.mm_objects.specs.Resolution.{defines, is_own, is_shared, placed, placed_in, resolve}
-use Rattle.mm_machines.specs.Image.{find_in, target_of}
-use Rattle.mm_machines.specs.declared.target.Target.{Target}
-use Rattle.mm_link.specs.Index.{leads, leads_if, own_in, own_names, placed_at, shared_in}
-use Rattle.mm_link.proofs.Names.{find_append, map_or, or_none}
+use Rattle.mm_objects.specs.Resolution.{defines, is_own, is_shared, placed, placed_in, resolve, find_in, target_of, shared_in}
+use Rattle.mm_objects.specs.declared.target.Target.{Target}
+use Rattle.mm_link.specs.Index.{look_up, look_up_if, own_in, own_names, placed_at}
+use Rattle.mm_link.proofs.Names.{map_or, or_none}
+use Rattle.mm_terms.proofs.ListLemmas.{find-append}
 
 pub same_number : (n m : ℕ) → n ≡ m → (n == m) ≡ true
 same_number n m e = grind (arith, e)
@@ -37,7 +37,7 @@ own_elsewhere unit n s (d ∷ ds) e =
 own_behind : (unit n : ℕ) (s : List ℕ) (us : List ObjUnit) → unit < n → find (is_own unit s) (flat_map placed_in (enumerate_from n us)) ≡ None
 own_behind unit n s [] lt = refl
 own_behind unit n s (u ∷ us) lt =
-    find_append (is_own unit s) (placed_in (n, u)) (flat_map placed_in (enumerate_from (n + 1) us))
+    find-append (is_own unit s) (placed_in (n, u)) (flat_map placed_in (enumerate_from (n + 1) us))
     ∙ ap (λ o. option_or o (find (is_own unit s) (flat_map placed_in (enumerate_from (n + 1) us)))) (own_elsewhere unit n s (enumerate_from 0 u.defs) (λ e. omega (arith, e, lt)))
     ∙ own_behind unit (n + 1) s us (omega arith)
 
@@ -55,7 +55,7 @@ own_at n (u ∷ us) zero s =
     (sym (own_here (n + 0) n s (enumerate_from 0 u.defs) e)
     ∙ sym (or_none (find (is_own (n + 0) s) (placed_in (n, u))))
     ∙ ap (option_or (find (is_own (n + 0) s) (placed_in (n, u)))) (sym (own_behind (n + 0) (n + 1) s us (omega arith)))
-    ∙ sym (find_append (is_own (n + 0) s) (placed_in (n, u)) rest))
+    ∙ sym (find-append (is_own (n + 0) s) (placed_in (n, u)) rest))
 own_at n (u ∷ us) (suc k) s =
     let rest = flat_map placed_in (enumerate_from (n + 1) us) in
     let e : n + 1 + k ≡ n + suc k = omega arith in
@@ -63,24 +63,24 @@ own_at n (u ∷ us) (suc k) s =
     ∙ ap (λ m. option_map target_of (find (is_own m s) rest)) e
     ∙ ap (option_map target_of)
     (ap (λ o. option_or o (find (is_own (n + suc k) s) rest)) (sym (own_elsewhere (n + suc k) n s (enumerate_from 0 u.defs) (λ h. omega (arith, h))))
-    ∙ sym (find_append (is_own (n + suc k) s) (placed_in (n, u)) rest))
+    ∙ sym (find-append (is_own (n + suc k) s) (placed_in (n, u)) rest))
 
 module _ {S : Type 0} where
-  given_if : (o : Option (HashMap (Vec ℕ) Target S)) (s : List ℕ) → leads_if o s ≡ given (option_map leads o) s
+  given_if : (o : Option (HashMap (Vec ℕ) Target S)) (s : List ℕ) → look_up_if o s ≡ given (option_map look_up o) s
   given_if None s = refl
   given_if (Some m) s = refl
 
-  pub own_found : (own : List (HashMap (Vec ℕ) Target S)) (us : List ObjUnit) → map leads own ≡ own_names 0 us → (unit : ℕ) (s : List ℕ) → leads_if (slice_get own unit) s ≡ own_in us unit s
+  pub own_found : (own : List (HashMap (Vec ℕ) Target S)) (us : List ObjUnit) → map look_up own ≡ own_names 0 us → (unit : ℕ) (s : List ℕ) → look_up_if (slice_get own unit) s ≡ own_in us unit s
   own_found own us is unit s =
       let e : 0 + unit ≡ unit = omega arith in
       given_if (slice_get own unit) s
-      ∙ ap (λ o. given o s) (sym (slice_get-map leads own unit) ∙ ap (λ l. slice_get l unit) is)
+      ∙ ap (λ o. given o s) (sym (slice_get-map look_up own unit) ∙ ap (λ l. slice_get l unit) is)
       ∙ own_at 0 us unit s ∙ ap (λ n. option_map target_of (find (is_own n s) (placed us))) e
 
   -- the index of the units finds what a reference names
-  pub index_finds : (shared : HashMap (Vec ℕ) Target S) (own : List (HashMap (Vec ℕ) Target S)) (us : List ObjUnit) → ((s : List ℕ) → leads shared s ≡ shared_in us s) → map leads own ≡ own_names 0 us → (unit : ℕ) (s : List ℕ) → option_or (leads_if (slice_get own unit) s) (leads shared s) ≡ find_in us unit s
+  pub index_finds : (shared : HashMap (Vec ℕ) Target S) (own : List (HashMap (Vec ℕ) Target S)) (us : List ObjUnit) → ((s : List ℕ) → look_up shared s ≡ shared_in us s) → map look_up own ≡ own_names 0 us → (unit : ℕ) (s : List ℕ) → option_or (look_up_if (slice_get own unit) s) (look_up shared s) ≡ find_in us unit s
   unfolding resolve
   index_finds shared own us shared_is own_is unit s =
-      ap (λ o. option_or o (leads shared s)) (own_found own us own_is unit s)
+      ap (λ o. option_or o (look_up shared s)) (own_found own us own_is unit s)
       ∙ ap (option_or (own_in us unit s)) (shared_is s)
       ∙ sym (map_or target_of (find (is_own unit s) (placed us)) (find (is_shared s) (placed us)))

@@ -9,7 +9,7 @@ use Rattle.std.specs.Str.{bytes_eq}
 use Rattle.std.proofs.Common.{◌∙◌, refl, sym, ap, subst, ⊎_elim}
 use Rattle.std.proofs.lemmas.Bool.{cases_Bool, cond-true, cond-false}
 use Rattle.std.proofs.lemmas.Slice.Eq.{bytes_eq-Decides}
-use Rattle.mm_link.specs.Index.{leads}
+use Rattle.mm_link.specs.Index.{look_up}
 
 apart : (bs cs ks : List ℕ) → bytes_eq bs cs ≡ false → bytes_eq bs ks ≡ true → bytes_eq cs ks ≡ false
 apart bs cs ks n y = nat_list_eq_equiv.symm cs ks ∙ sym (nat_list_eq_equiv.congr bs ks cs y) ∙ n
@@ -20,11 +20,11 @@ module _ {X S : Type 0} (m n : HashMap (Vec ℕ) X S) where
   others eq test h = h
 
   -- it leads there from these bytes, and from others as before
-  pub updated : (bs : List ℕ) (w : Option X) → UpdatesBy (λ x y. bytes_eq x.items y.items) (λ k. bytes_eq bs k.items) m n w → (cs : List ℕ) → leads n cs ≡ cond (bytes_eq bs cs) w (leads m cs)
+  pub updated : (bs : List ℕ) (w : Option X) → UpdatesBy (λ x y. bytes_eq x.items y.items) (λ k. bytes_eq bs k.items) m n w → (cs : List ℕ) → look_up n cs ≡ cond (bytes_eq bs cs) w (look_up m cs)
   updated bs w h cs =
       ⊎_elim
-      (λ y. subst (λ l. leads n l ≡ w) ((bytes_eq-Decides bs cs).0 y) h.1 ∙ sym (cond-true (bytes_eq bs cs) w (leads m cs) y))
-      (λ other. others _ _ h.3 (λ k. bytes_eq cs k.items) (λ x y. nat_list_eq_equiv.congr cs x.items y.items) (λ k. apart bs cs k.items other) ∙ sym (cond-false (bytes_eq bs cs) w (leads m cs) other))
+      (λ y. subst (λ l. look_up n l ≡ w) ((bytes_eq-Decides bs cs).0 y) h.1 ∙ sym (cond-true (bytes_eq bs cs) w (look_up m cs) y))
+      (λ other. others _ _ h.3 (λ k. bytes_eq cs k.items) (λ x y. nat_list_eq_equiv.congr cs x.items y.items) (λ k. apart bs cs k.items other) ∙ sym (cond-false (bytes_eq bs cs) w (look_up m cs) other))
       (cases_Bool (bytes_eq bs cs))
 
 none_if : {X : Type 0} (o : Option X) → is_some o ≡ false → o ≡ None

@@ -8,8 +8,8 @@ use Rattle.std.proofs.Common.{◌∙◌, refl, sym, ap, inl, inr, ⊎_elim}
 use Rattle.std.proofs.lemmas.Cmp.{nat_cmp_total, nat_list_cmp_total, on_total, then_total}
 use Rattle.std.proofs.lemmas.List.{take_all, take_more}
 use Rattle.std.proofs.lemmas.List.Elements.{All-append, All-cons, All-nil, All-same}
-use Rattle.mm_link.specs.Linking.{clash_cmp, target_cmp}
-use Rattle.mm_link.specs.declared.clash.Clash.{Clash}
+use Rattle.mm_objects.specs.Linking.{clash_cmp, target_cmp}
+use Rattle.mm_objects.specs.declared.target.Clash.{Clash}
 
 pub target_cmp_total : IsTotalOrder target_cmp
 target_cmp_total = then_total (on_total (λ t. t.unit) nat_cmp_total) (on_total (λ t. t.def) nat_cmp_total)

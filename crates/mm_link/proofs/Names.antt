@@ -6,10 +6,10 @@ use Rattle.std.proofs.Common.{◌∙◌, refl, sym, ap}
 use Rattle.std.proofs.lemmas.List.{drop_more}
 use Rattle.mm_objects.specs.declared.objects.ObjDef.{ObjDef}
 use Rattle.mm_objects.specs.declared.objects.ObjUnit.{ObjUnit}
-use Rattle.mm_objects.specs.Resolution.{is_shared, placed_in}
-use Rattle.mm_machines.specs.Image.{target_of}
-use Rattle.mm_machines.specs.declared.target.Target.{Target}
+use Rattle.mm_objects.specs.Resolution.{is_shared, placed_in, target_of}
+use Rattle.mm_objects.specs.declared.target.Target.{Target}
 use Rattle.mm_link.specs.Index.{found_from, shared_from, passes, placed_at}
+use Rattle.mm_terms.proofs.ListLemmas.{find-append}
 
 -- ---- what may be found, and what else
 
@@ -30,14 +30,6 @@ pub found_step : (shared : Bool) (unit n : ℕ) (d : ObjDef) (ds : List ObjDef) 
 found_step shared unit n d ds s =
     first_or target_of (passes shared s (placed_at unit (n, d))) (placed_at unit (n, d)) (find (passes shared s) (map (placed_at unit) (enumerate_from (n + 1) ds)))
 
-pub find_append : {A : Type 0} (p : A → Bool) (xs ys : List A) → find p (xs ++ ys) ≡ option_or (find p xs) (find p ys)
-find_append p [] ys = refl
-find_append p (x ∷ xs) ys = ap (cond (p x) (Some x)) (find_append p xs ys) ∙ either (p x) x (find p xs) (find p ys)
-  where
-    either : {A : Type 0} (b : Bool) (x : A) (o q : Option A) → cond b (Some x) (option_or o q) ≡ option_or (cond b (Some x) o) q
-    either true x o q = refl
-    either false x o q = refl
-
 pub map_or : {A X : Type 0} (f : A → X) (o q : Option A) → option_map f (option_or o q) ≡ option_or (option_map f o) (option_map f q)
 map_or f None q = refl
 map_or f (Some x) q = refl
@@ -45,7 +37,7 @@ map_or f (Some x) q = refl
 -- what one unit gives, and then the others
 pub shared_step : (n : ℕ) (u : ObjUnit) (us : List ObjUnit) (s : List ℕ) → shared_from n (u ∷ us) s ≡ option_or (found_from true n 0 u.defs s) (shared_from (n + 1) us s)
 shared_step n u us s =
-    ap (option_map target_of) (find_append (is_shared s) (placed_in (n, u)) (flat_map placed_in (enumerate_from (n + 1) us)))
+    ap (option_map target_of) (find-append (is_shared s) (placed_in (n, u)) (flat_map placed_in (enumerate_from (n + 1) us)))
     ∙ map_or target_of (find (is_shared s) (placed_in (n, u))) (find (is_shared s) (flat_map placed_in (enumerate_from (n + 1) us)))
 
 -- what is noted of one unit is no longer to be given by the units that are left

@@ -10,12 +10,13 @@ use Rattle.std.proofs.lemmas.Map.Text.{is_eq-slice_cmp}
 use Rattle.std.proofs.lemmas.Slice.Eq.{bytes_eq-Decides}
 use Rattle.mm_objects.specs.declared.objects.ObjUnit.{ObjUnit}
 use Rattle.mm_objects.specs.declared.objects.Objects.{Objects}
-use Rattle.mm_machines.specs.declared.target.Target.{Target}
-use Rattle.mm_link.specs.Linking.{IsDouble, IsLinked, IsUndefined, IsVerdict, clash_cmp, name_at, target_cmp}
-use Rattle.mm_link.specs.declared.clash.Clash.{Clash}
+use Rattle.mm_objects.specs.declared.target.Target.{Target}
+use Rattle.mm_link.specs.Linking.{IsDouble, IsUndefined, IsVerdict, name_at}
+use Rattle.mm_objects.specs.Linking.{IsLinked, clash_cmp, target_cmp}
+use Rattle.mm_objects.specs.declared.target.Clash.{Clash}
 use Rattle.mm_link.specs.declared.fault.LinkFault.{LinkFault}
 use Rattle.mm_link.specs.declared.fault.LinkFault.TheVariants as fault
-use Rattle.mm_link.specs.declared.linked.Linked.{Linked}
+use Rattle.mm_objects.specs.declared.target.Linked.{Linked}
 use Rattle.mm_link.proofs.Least.{clash_cmp_total, turned}
 
 -- ---- the least clash
@@ -97,7 +98,7 @@ linked_or_fault o image (fault.Undefined u s) x y n = none_or_found _ y.referenc
 linked_or_fault o image fault.NoMain x y n = none_or_found _ image.main y.none x.main
 linked_or_fault o image fault.NoMemory x y n = n refl
 
--- the fault is not want of memory, where the verdict is not
+-- the fault is not out of memory, where the verdict is not
 not_memory : (f : LinkFault) (r : Result Linked LinkFault) → r ≡ Err f → r ≢ Err fault.NoMemory → f ≢ fault.NoMemory
 not_memory f r is n e = n (is ∙ ap (λ g. Err g) e)
 

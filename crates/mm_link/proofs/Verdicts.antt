@@ -3,13 +3,14 @@ use Rattle.std.specs.Prelude.{◌≡◌, List, Err, None, Some}
 use Rattle.std.proofs.Common.{◌∙◌, sym, ap, subst}
 use Rattle.mm_objects.specs.declared.objects.ObjUnit.{ObjUnit}
 use Rattle.mm_objects.specs.declared.objects.Objects.{Objects}
-use Rattle.mm_machines.specs.declared.target.Target.{Target}
+use Rattle.mm_objects.specs.declared.target.Target.{Target}
 use Rattle.mm_link.specs.Clashes.{HasAll}
-use Rattle.mm_link.specs.Index.{shared_in}
-use Rattle.mm_link.specs.Linking.{HasNoClash, HasNoMain, IsLinked, IsVerdict, first_undefined}
+use Rattle.mm_objects.specs.Resolution.{shared_in}
+use Rattle.mm_link.specs.Linking.{HasNoMain, IsVerdict}
+use Rattle.mm_objects.specs.Linking.{HasNoClash, IsLinked, first_undefined}
 use Rattle.mm_link.specs.declared.fault.LinkFault.{LinkFault}
 use Rattle.mm_link.specs.declared.fault.LinkFault.TheVariants as fault
-use Rattle.mm_link.specs.declared.linked.Linked.{Linked}
+use Rattle.mm_objects.specs.declared.target.Linked.{Linked}
 
 module _ (o : Objects) (us : List ObjUnit) (are : us ≡ o.units) where
   missing_verdict : (f : LinkFault) → HasNoClash o.units → HasAll o.units (Err f) → IsVerdict o (Err f)

@@ -2,17 +2,19 @@
 use Rattle.std.specs.Prelude.{◌≡◌, ◌≢◌, ℕ, ◌<◌, List, [], map, length, get_or, All, Option, None, Some, Result, Ok, Err, ⊤, slice_get}
 use Rattle.std.specs.declared.cmp.Ordering.TheVariants.{Less}
 use Rattle.mm_objects.specs.declared.objects.ObjUnit.{ObjUnit}
-use Rattle.mm_link.specs.Index.{leads, own_names, shared_in}
-use Rattle.mm_link.specs.Linking.{HasNoClash, IsClash, IsDouble, clash_cmp, first_undefined, name_at}
-use Rattle.mm_link.specs.declared.clash.Clash.{Clash}
+use Rattle.mm_link.specs.Index.{look_up, own_names}
+use Rattle.mm_objects.specs.Resolution.{shared_in}
+use Rattle.mm_link.specs.Linking.{IsDouble, name_at}
+use Rattle.mm_objects.specs.Linking.{HasNoClash, IsClash, clash_cmp, first_undefined}
+use Rattle.mm_objects.specs.declared.target.Clash.{Clash}
 use Rattle.mm_link.specs.declared.fault.LinkFault.{LinkFault}
 use Rattle.mm_link.specs.declared.fault.LinkFault.TheVariants as fault
 use Rattle.mm_link.specs.declared.index.Index.{Index}
 
 -- the index is that of the units
 pub record IsIndexOf (us : List ObjUnit) (index : Index) : Type 0 where
-  pub shared : (s : List ℕ) → leads index.shared s ≡ shared_in us s
-  pub own : map leads index.own.items ≡ own_names 0 us
+  pub shared : (s : List ℕ) → look_up index.shared s ≡ shared_in us s
+  pub own : map look_up index.own.items ≡ own_names 0 us
 
 -- none of the clashes is less than the one at the place, and where there is no place there are none
 abbrev pub IsLeast : List Clash → Option ℕ → Type 0

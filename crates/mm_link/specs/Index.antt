@@ -7,18 +7,17 @@ use Rattle.std.specs.Option.{option_map}
 use Rattle.std.specs.Str.{bytes_eq}
 use Rattle.mm_objects.specs.declared.objects.ObjDef.{ObjDef}
 use Rattle.mm_objects.specs.declared.objects.ObjUnit.{ObjUnit}
-use Rattle.mm_objects.specs.Resolution.{Placed, is_external, link_of, symbol_of, defines, is_own, is_shared, placed, placed_in}
-use Rattle.mm_machines.specs.Image.{target_of}
-use Rattle.mm_machines.specs.declared.target.Target.{Target}
+use Rattle.mm_objects.specs.Resolution.{Placed, is_external, link_of, symbol_of, defines, is_own, is_shared, placed, placed_in, shared_in, target_of}
+use Rattle.mm_objects.specs.declared.target.Target.{Target}
 
 -- where a symbol leads by a map
-abbrev pub leads : {X S : Type 0} → HashMap (Vec ℕ) X S → List ℕ → Option X
-leads m s = get_by (λ k. bytes_eq s k.items) m
+abbrev pub look_up : {X S : Type 0} → HashMap (Vec ℕ) X S → List ℕ → Option X
+look_up m s = get_by (λ k. bytes_eq s k.items) m
 
 -- where a symbol leads by a map that may not be there
-abbrev pub leads_if : {X S : Type 0} → Option (HashMap (Vec ℕ) X S) → List ℕ → Option X
-leads_if None s = None
-leads_if (Some m) s = leads m s
+abbrev pub look_up_if : {X S : Type 0} → Option (HashMap (Vec ℕ) X S) → List ℕ → Option X
+look_up_if None s = None
+look_up_if (Some m) s = look_up m s
 
 -- a definition of the symbol, and where that is asked one to which every unit may refer
 abbrev pub passes : Bool → List ℕ → Placed → Bool
@@ -36,10 +35,6 @@ found_from shared unit n ds s = option_map target_of (find (passes shared s) (ma
 -- the first definition of the symbol to which every unit may refer, among units that stand from a place on
 abbrev pub shared_from : ℕ → List ObjUnit → List ℕ → Option Target
 shared_from n us s = option_map target_of (find (is_shared s) (flat_map placed_in (enumerate_from n us)))
-
--- the first definition of the symbol to which every unit may refer
-abbrev pub shared_in : List ObjUnit → List ℕ → Option Target
-shared_in us s = option_map target_of (find (is_shared s) (placed us))
 
 -- the first definition of the symbol of one to which every unit may refer, where that is so of this one
 abbrev pub open_in : List ObjUnit → ObjDef → Option Target

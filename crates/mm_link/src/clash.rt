@@ -2,29 +2,19 @@ ghost use Rattle.std.specs.Prelude.{◌≡◌, ◌≢◌, ◌++◌, ◌<◌, [],
 ghost use Rattle.std.specs.List.{enumerate_from};
 ghost use Rattle.std.specs.Ordering.{is_lt};
 ghost use Rattle.mm_link.specs.Clashes.{IsFirst, IsIndexOf, IsLeast};
-ghost use Rattle.mm_link.specs.Index.{placed_at};
-ghost use Rattle.mm_link.specs.Linking.{clash_cmp, earlier, target_cmp as text_order, told};
-ghost use Rattle.mm_link.specs.Index.{open_in, own_in};
-ghost use Rattle.mm_link.specs.declared.clash.Clash.{Clash};
+ghost use Rattle.mm_link.specs.Index.{placed_at, open_in, own_in};
+ghost use Rattle.mm_link.specs.Linking.{earlier, reported};
+ghost use Rattle.mm_objects.specs.Linking.{clash_cmp, target_cmp as text_order};
+ghost use Rattle.mm_objects.specs.declared.target.Clash.{Clash};
 ghost use Rattle.std.specs.declared.cmp.Ordering.TheVariants.{Less};
 ghost use Rattle.mm_objects.specs.Resolution.{placed, placed_in};
 
 use crate::index::{Index, is_shared, symbol};
-use mm_machines::Target;
-use mm_objects::{ObjDef, ObjUnit};
+use mm_objects::{Clash, ObjDef, ObjUnit, Target};
 use mm_terms::{NoMemory, Text};
 use sqlite_items::Items;
 use std::alloc::Global;
 use std::cmp::Ordering;
-
-/// Two definitions of one symbol, of which a reference could name either.
-#[derive(Debug, Drop)]
-pub struct Clash {
-    pub symbol: Text,
-    /// The definition that is earlier in the text.
-    pub first: Target,
-    pub second: Target,
-}
 
 /// The order of definitions in the text.
 fn target_cmp(t: Target, u: Target) -> Ordering
@@ -33,16 +23,14 @@ fn target_cmp(t: Target, u: Target) -> Ordering
     t.unit.cmp(&u.unit).then(t.def.cmp(&u.def))
 }
 
-impl Clash {
-    /// The order by symbol, and then by the places of both definitions.
-    fn order(&self, other: &Clash) -> Ordering
-        ensures { result ≡ clash_cmp self.now other.now }
-    {
-        let symbols = self.symbol.as_slice().cmp(other.symbol.as_slice());
-        let firsts = target_cmp(self.first, other.first);
-        let seconds = target_cmp(self.second, other.second);
-        symbols.then(firsts.then(seconds))
-    }
+/// The order of clashes: by symbol, and then by where both definitions stand.
+fn order(one: &Clash, other: &Clash) -> Ordering
+    ensures { result ≡ clash_cmp one.now other.now }
+{
+    let symbols = one.symbol.as_slice().cmp(other.symbol.as_slice());
+    let firsts = target_cmp(one.first, other.first);
+    let seconds = target_cmp(one.second, other.second);
+    symbols.then(firsts.then(seconds))
 }
 
 /// Notes the clash of a definition with another, where that is earlier.
@@ -99,7 +87,7 @@ fn note_clashes(
     def: &ObjDef,
 ) -> Result<(), NoMemory>
     requires { IsIndexOf units.now index.now }
-    ensures { OnOk result (clashes.new.items ≡ clashes.old.items ++ told units.now (placed_at at.unit (at.def, def.now))) }
+    ensures { OnOk result (clashes.new.items ≡ clashes.old.items ++ reported units.now (placed_at at.unit (at.def, def.now))) }
 {
     let symbol = symbol(def);
     let own = own_first(units, index, at.unit, symbol);
@@ -118,7 +106,7 @@ fn note_unit(
     unit: &ObjUnit,
 ) -> Result<(), NoMemory>
     requires { IsIndexOf units.now index.now }
-    ensures { OnOk result (clashes.new.items ≡ clashes.old.items ++ flat_map (told units.now) (placed_in (number, unit.now))) }
+    ensures { OnOk result (clashes.new.items ≡ clashes.old.items ++ flat_map (reported units.now) (placed_in (number, unit.now))) }
 {
     for (place, def) in unit.defs.as_slice().iter().enumerate() {
         let Ok(place) = u32::try_from(place) else {
@@ -136,7 +124,7 @@ fn note_unit(
 /// The clashes of definitions with earlier ones.
 fn clashes(alloc: Global, units: &[ObjUnit], index: &Index) -> Result<Vec<Clash>, NoMemory>
     requires { IsIndexOf units.now index.now }
-    ensures { IfOk result (λ found. found.items ≡ flat_map (told units.now) (placed units.now)) }
+    ensures { IfOk result (λ found. found.items ≡ flat_map (reported units.now) (placed units.now)) }
 {
     let mut found = Vec::new(alloc);
     for (place, unit) in units.iter().enumerate() {
@@ -157,7 +145,7 @@ fn lesser(clashes: &[Clash], best: usize, other: usize) -> usize
     ensures least { (d : Clash) → clash_cmp (get_or clashes.now other d) (get_or clashes.now result d) ≢ Less }
     ensures keeps { (d y : Clash) → clash_cmp y (get_or clashes.now best d) ≢ Less → clash_cmp y (get_or clashes.now result d) ≢ Less }
 {
-    if clashes[other].order(&clashes[best]).is_lt() {
+    if order(&clashes[other], &clashes[best]).is_lt() {
         return other;
     }
     best

@@ -1,11 +1,9 @@
 ghost use Rattle.std.specs.Prelude.{◌≡◌};
 ghost use Rattle.mm_link.specs.Clashes.{IsIndexOf};
-ghost use Rattle.mm_machines.specs.Image.{find_in};
+ghost use Rattle.mm_objects.specs.Resolution.{find_in};
 
 use crate::index::Index;
-use crate::linked::Linked;
-use mm_machines::Target;
-use mm_objects::Objects;
+use mm_objects::{Linked, Objects, Target};
 use std::marker::Model;
 
 /// Objects in which each reference names a definition, with an index of their symbols. Contracts see the objects and the
@@ -17,8 +15,8 @@ pub struct Image {
 }
 
 impl Model for Image {
-    ghost use Rattle.mm_link.specs.contracts.linked.Linked as linked_row;
-    ghost use Rattle.mm_link.specs.declared.linked.Linked.{Linked};
+    ghost use Rattle.mm_objects.specs.contracts.target.Linked as linked_row;
+    ghost use Rattle.mm_objects.specs.declared.target.Linked.{Linked};
     ghost use Rattle.std.specs.Coded.{codes};
 
     ghost Value = { Linked };
@@ -27,13 +25,13 @@ impl Model for Image {
 
     ghost use Rattle.std.specs.Prelude.{◌≡◌, ℕ, List, slice_get};
     ghost use Rattle.std.specs.Option.{option_or};
-    ghost use Rattle.mm_link.specs.Index.{leads, leads_if};
-    ghost use Rattle.mm_machines.specs.Image.{find_in};
+    ghost use Rattle.mm_link.specs.Index.{look_up, look_up_if};
+    ghost use Rattle.mm_objects.specs.Resolution.{find_in};
 
     ghost view = { λ t. t.linked };
 
     ghost invariant = { λ t. (unit : ℕ) (s : List ℕ) →
-        option_or (leads_if (slice_get t.index.own.items unit) s) (leads t.index.shared s) ≡ find_in t.linked.objects.units unit s };
+        option_or (look_up_if (slice_get t.index.own.items unit) s) (look_up t.index.shared s) ≡ find_in t.linked.objects.units unit s };
 }
 
 impl Image {

@@ -1,11 +1,10 @@
 ghost use Rattle.std.specs.Prelude.{◌≡◌, ℕ, List, [], ◌∷◌, None, Some, IfOk, OnOk, cond, map, false, slice_get};
 ghost use Rattle.std.specs.Option.{option_or};
 ghost use Rattle.std.specs.Str.{bytes_eq};
-ghost use Rattle.mm_link.specs.Index.{found_from, leads, leads_if, own_names as names_of, shared_in};
-ghost use Rattle.mm_objects.specs.Resolution.{is_external, link_of, symbol_of};
+ghost use Rattle.mm_link.specs.Index.{found_from, look_up, look_up_if, own_names as names_of};
+ghost use Rattle.mm_objects.specs.Resolution.{shared_in, is_external, link_of, symbol_of};
 
-use mm_machines::Target;
-use mm_objects::{Linkage, ObjDef, ObjUnit};
+use mm_objects::{Linkage, ObjDef, ObjUnit, Target};
 use mm_terms::NoMemory;
 use std::alloc::Global;
 use std::collections::HashMap;
@@ -43,9 +42,9 @@ pub fn is_shared(def: &ObjDef) -> bool
     }
 }
 
-/// Notes that a symbol leads to a definition, unless it leads to an earlier one.
+/// Notes that a symbol resolves to a definition, unless it resolves to an earlier one.
 fn note(alloc: Global, names: &mut Names, symbol: &[u8], target: Target) -> Result<(), NoMemory>
-    ensures { OnOk result ((s : List ℕ) → leads names.new s ≡ option_or (leads names.old s) (cond (bytes_eq symbol.now s) (Some target) None)) }
+    ensures { OnOk result ((s : List ℕ) → look_up names.new s ≡ option_or (look_up names.old s) (cond (bytes_eq symbol.now s) (Some target) None)) }
 {
     if names.contains_key(symbol) {
         return Ok(());
@@ -63,7 +62,7 @@ fn note_def(
     def: &ObjDef,
     target: Target,
 ) -> Result<(), NoMemory>
-    ensures { OnOk result ((s : List ℕ) → leads names.new s ≡ option_or (leads names.old s) (found_from shared target.unit target.def (def.now ∷ []) s)) }
+    ensures { OnOk result ((s : List ℕ) → look_up names.new s ≡ option_or (look_up names.old s) (found_from shared target.unit target.def (def.now ∷ []) s)) }
 {
     if shared && !is_shared(def) {
         return Ok(());
@@ -79,7 +78,7 @@ fn note_unit(
     number: u32,
     unit: &ObjUnit,
 ) -> Result<(), NoMemory>
-    ensures { OnOk result ((s : List ℕ) → leads names.new s ≡ option_or (leads names.old s) (found_from shared number 0 unit.now.defs s)) }
+    ensures { OnOk result ((s : List ℕ) → look_up names.new s ≡ option_or (look_up names.old s) (found_from shared number 0 unit.now.defs s)) }
 {
     for (place, def) in unit.defs.as_slice().iter().enumerate() {
         let Ok(place) = u32::try_from(place) else {
@@ -96,7 +95,7 @@ fn note_unit(
 
 /// Where symbols lead in a unit.
 fn unit_names(alloc: Global, number: u32, unit: &ObjUnit) -> Result<Names, NoMemory>
-    ensures { IfOk result (λ names. leads names ≡ found_from false number 0 unit.now.defs) }
+    ensures { IfOk result (λ names. look_up names ≡ found_from false number 0 unit.now.defs) }
 {
     let mut names = HashMap::new(alloc);
     note_unit(alloc, &mut names, false, number, unit)?;
@@ -105,7 +104,7 @@ fn unit_names(alloc: Global, number: u32, unit: &ObjUnit) -> Result<Names, NoMem
 
 /// Where symbols lead in every unit.
 fn shared_names(alloc: Global, units: &[ObjUnit]) -> Result<Names, NoMemory>
-    ensures { IfOk result (λ names. (s : List ℕ) → leads names s ≡ shared_in units.now s) }
+    ensures { IfOk result (λ names. (s : List ℕ) → look_up names s ≡ shared_in units.now s) }
 {
     let mut names = HashMap::new(alloc);
     for (place, unit) in units.iter().enumerate() {
@@ -119,7 +118,7 @@ fn shared_names(alloc: Global, units: &[ObjUnit]) -> Result<Names, NoMemory>
 
 /// Where symbols lead in each unit by its own definitions.
 fn own_names(alloc: Global, units: &[ObjUnit]) -> Result<Vec<Names>, NoMemory>
-    ensures { IfOk result (λ own. map leads own.items ≡ names_of 0 units.now) }
+    ensures { IfOk result (λ own. map look_up own.items ≡ names_of 0 units.now) }
 {
     let mut own = Vec::new(alloc);
     for (place, unit) in units.iter().enumerate() {
@@ -133,8 +132,8 @@ fn own_names(alloc: Global, units: &[ObjUnit]) -> Result<Vec<Names>, NoMemory>
 
 /// Where symbols lead, among units.
 pub fn index_units(alloc: Global, units: &[ObjUnit]) -> Result<Index, NoMemory>
-    ensures shared { IfOk result (λ index. (s : List ℕ) → leads index.shared s ≡ shared_in units.now s) }
-    ensures own { IfOk result (λ index. map leads index.own.items ≡ names_of 0 units.now) }
+    ensures shared { IfOk result (λ index. (s : List ℕ) → look_up index.shared s ≡ shared_in units.now s) }
+    ensures own { IfOk result (λ index. map look_up index.own.items ≡ names_of 0 units.now) }
 {
     let shared = shared_names(alloc, units)?;
     let own = own_names(alloc, units)?;
@@ -144,7 +143,7 @@ pub fn index_units(alloc: Global, units: &[ObjUnit]) -> Result<Index, NoMemory>
 impl Index {
     /// The unit's own first definition of a symbol.
     pub fn own_def(&self, unit: u32, symbol: &[u8]) -> Option<Target>
-        ensures { result ≡ leads_if (slice_get self.now.own.items unit) symbol.now }
+        ensures { result ≡ look_up_if (slice_get self.now.own.items unit) symbol.now }
     {
         let names = self.own.get(unit as usize)?;
         names.get(symbol).copied()
@@ -152,14 +151,14 @@ impl Index {
 
     /// The first definition of a symbol to which every unit may refer.
     pub fn shared_def(&self, symbol: &[u8]) -> Option<Target>
-        ensures { result ≡ leads self.now.shared symbol.now }
+        ensures { result ≡ look_up self.now.shared symbol.now }
     {
         self.shared.get(symbol).copied()
     }
 
     /// The definition to which a symbol leads in a unit.
     pub fn find(&self, unit: u32, symbol: &[u8]) -> Option<Target>
-        ensures { result ≡ option_or (leads_if (slice_get self.now.own.items unit) symbol.now) (leads self.now.shared symbol.now) }
+        ensures { result ≡ option_or (look_up_if (slice_get self.now.own.items unit) symbol.now) (look_up self.now.shared symbol.now) }
     {
         self.own_def(unit, symbol).or(self.shared_def(symbol))
     }

@@ -2,7 +2,7 @@ ghost use Rattle.std.specs.Prelude.{◌≡◌, IfOk, is_none, flat_map};
 ghost use Rattle.std.specs.List.{find};
 ghost use Rattle.std.specs.Option.{option_map};
 ghost use Rattle.mm_link.specs.Clashes.{IsIndexOf};
-ghost use Rattle.mm_link.specs.Linking.{def_symbols, end_symbols, first_undefined, is_undefined, unit_references};
+ghost use Rattle.mm_objects.specs.Linking.{def_symbols, end_symbols, first_undefined, is_undefined, unit_references};
 
 use crate::index::Index;
 use mm_objects::{ObjBlock, ObjCallee, ObjDef, ObjEnd, ObjUnit};
@@ -11,7 +11,7 @@ use sqlite_items::Items;
 use std::alloc::Global;
 
 /// A reference.
-#[derive(Debug, Drop)]
+#[derive(Drop)]
 pub struct Reference {
     /// The number of the unit in which it stands.
     pub unit: u32,

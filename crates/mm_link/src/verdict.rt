@@ -3,12 +3,12 @@ ghost use Rattle.mm_link.specs.Clashes.{HasAll, HasOne, IsIndexOf};
 ghost use Rattle.mm_link.specs.Linking.{IsVerdict, name_at};
 ghost use Rattle.mm_link.specs.declared.fault.LinkFault.TheVariants as fault;
 
-use crate::clash::{Clash, least_clash};
+use crate::clash::least_clash;
 use crate::fault::LinkFault;
 use crate::image::Image;
 use crate::index::{Index, index_units};
 use crate::references::missing;
-use mm_objects::{ObjUnit, Objects};
+use mm_objects::{Clash, ObjUnit, Objects};
 use mm_terms::{NoMemory, Text};
 use sqlite_items::Items;
 use std::alloc::Global;
@@ -25,7 +25,7 @@ fn name(alloc: Global, units: &[ObjUnit], unit: u32) -> Result<Text, NoMemory>
 
 /// The fault of a clash.
 fn double(alloc: Global, units: &[ObjUnit], clash: Clash) -> Result<LinkFault, NoMemory>
-    ensures { IfOk result (λ told. told ≡ fault.Double clash.symbol (name_at (slice_get units.now clash.first.unit)) (name_at (slice_get units.now clash.second.unit))) }
+    ensures { IfOk result (λ reported. reported ≡ fault.Double clash.symbol (name_at (slice_get units.now clash.first.unit)) (name_at (slice_get units.now clash.second.unit))) }
 {
     let first = name(alloc, units, clash.first.unit)?;
     let second = name(alloc, units, clash.second.unit)?;
@@ -63,8 +63,8 @@ fn check_references(alloc: Global, units: &[ObjUnit], index: &Index) -> Result<(
 }
 
 /// Links objects. A fault is the first of these that there is: two definitions of one symbol in one unit, or both open
-/// to every unit, of which the least symbol is told; a reference that names nothing, of which the first in the text is
-/// told; and no definition of the main symbol that is open to every unit.
+/// to every unit, of which the least symbol is reported; a reference that names nothing, of which the first in the text is
+/// reported; and no definition of the main symbol that is open to every unit.
 pub fn link(alloc: Global, objects: Objects) -> Result<Image, LinkFault>
     ensures { IsVerdict objects result }
 {

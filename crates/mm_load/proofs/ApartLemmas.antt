@@ -1,30 +1,31 @@
 -- No two functions of a tree that keeps the rules have one path.
-use Rattle.std.proofs.Common.{◌≡◌, ◌≢◌, ℕ, zero, suc, List, [], ◌∷◌, ◌++◌, map, get_or, Bool, true, false, ◌||◌, Some, refl, sym, ◌∙◌, ap, subst, append_assoc, codes, arith}
+use Rattle.std.proofs.Common.{◌≡◌, ◌≢◌, ℕ, zero, suc, List, [], ◌∷◌, ◌++◌, map, get_or, Bool, true, false, Some, refl, sym, ◌∙◌, ap, subst, append_assoc, codes, arith}
 use Rattle.std.specs.Prelude.{All, ⊤, slice_get}
 use Rattle.std.specs.List.{flat_map, list_any}
 use Rattle.std.specs.Str.{bytes_eq}
-use Rattle.std.proofs.lemmas.Bool.{both_ways}
+use Rattle.std.proofs.lemmas.Bool.{both_ways, or_parts}
 use Rattle.std.proofs.lemmas.List.{append_cancel_left}
 use Rattle.std.proofs.lemmas.List.Elements.{All-nil, All-cons, All-head, All-tail, All-append, All-weaker}
 use Rattle.std.proofs.lemmas.Option.{slice_get_within}
-use Rattle.mm_lex.specs.declared.token.Place.{Place}
+use Rattle.mm_lex.specs.declared.token.Position.{Position}
 use Rattle.mm_lex.specs.LexTokens.{IsName}
 use Rattle.mm_parse.specs.declared.ast.Crate.{Crate}
 use Rattle.mm_parse.specs.declared.ast.Item.{Item}
 use Rattle.mm_parse.specs.declared.ast.Name.{Name}
 use Rattle.mm_parse.specs.Grammar as grammar
-use Rattle.mm_load.specs.Rules.{along, again, place_if, Member, member_of, double_among, double_in_items}
-use Rattle.mm_load.specs.WrittenItem.{Defined, name_of, items_in, path_in, functions_in, functions_of}
+use Rattle.mm_load.specs.Rules.{along, again, position_if, Member, member_of, double_among, double_in_items}
+use Rattle.mm_load.specs.WrittenItem.{Defined, path_in, functions_in, functions_of}
+use Rattle.mm_load.proofs.ItemViews.{name_of, items_in}
 use Rattle.mm_load.proofs.ColonLemmas.{one_name}
 use Rattle.mm_load.proofs.FormLemmas.{path_of, defined, module_functions, function_alone, module_inside}
 use Rattle.mm_load.proofs.SpelledItems.{of_text}
-use Rattle.mm_collect.proofs.InstanceLemmas.{All-flat_map, All-at}
+use Rattle.mm_terms.proofs.ListLemmas.{All-flat_map, All-slice_get}
 use Rattle.mm_load.proofs.FormedLemmas.{named_function}
 use Rattle.mm_load.proofs.ItemLemmas.{member_of-name}
 use Rattle.mm_load.proofs.KeptLemmas.{none_both, none_if, all_parts}
 use Rattle.mm_load.proofs.MemberLemmas.{doubled}
-use Rattle.mm_load.proofs.Places.{bytes_same}
-use Rattle.mm_load.proofs.SpelledLemmas.{Told}
+use Rattle.mm_load.proofs.IndexLemmas.{bytes_same}
+use Rattle.mm_load.proofs.SpelledLemmas.{Spelling}
 
 -- ---- lists of functions, each with a path of its own
 
@@ -42,17 +43,17 @@ apart_both (d ∷ ds) es apart rest across = (
   apart_both ds es apart.1 rest (All-tail (λ d. All (IsOther d) es) d ds across),
 )
 
--- a path stands at one place
-pub one_place : (ds : List Defined) → AreApart ds → (i j : ℕ) (d e : Defined) → slice_get ds i ≡ Some d → slice_get ds j ≡ Some e → d.path ≡ e.path → i ≡ j
-one_place [] apart i j d e at there same = absurd (let none = slice_get_within {A = Defined} [] i d at in omega (arith, none))
-one_place (c ∷ ds) apart zero zero d e at there same = refl
-one_place (c ∷ ds) apart zero (suc j) d e at there same =
+-- a path stands at one index
+pub one_index : (ds : List Defined) → AreApart ds → (i j : ℕ) (d e : Defined) → slice_get ds i ≡ Some d → slice_get ds j ≡ Some e → d.path ≡ e.path → i ≡ j
+one_index [] apart i j d e at there same = absurd (let none = slice_get_within {A = Defined} [] i d at in omega (arith, none))
+one_index (c ∷ ds) apart zero zero d e at there same = refl
+one_index (c ∷ ds) apart zero (suc j) d e at there same =
     let first : c ≡ d = cc in
-    absurd (All-at (IsOther c) ds j e apart.0 there (ap (λ f. f.path) first ∙ same))
-one_place (c ∷ ds) apart (suc i) zero d e at there same =
+    absurd (All-slice_get (IsOther c) ds j e apart.0 there (ap (λ f. f.path) first ∙ same))
+one_index (c ∷ ds) apart (suc i) zero d e at there same =
     let first : c ≡ e = cc in
-    absurd (All-at (IsOther c) ds i d apart.0 at (ap (λ f. f.path) first ∙ sym same))
-one_place (c ∷ ds) apart (suc i) (suc j) d e at there same = ap suc (one_place ds apart.1 i j d e at there same)
+    absurd (All-slice_get (IsOther c) ds i d apart.0 at (ap (λ f. f.path) first ∙ sym same))
+one_index (c ∷ ds) apart (suc i) (suc j) d e at there same = ap suc (one_index ds apart.1 i j d e at there same)
 
 -- ---- the names of a module
 
@@ -63,24 +64,20 @@ abbrev AreOthers : List Member → Type 0
 AreOthers [] = ⊤
 AreOthers (m ∷ ms) = All (HasOther m) ms × AreOthers ms
 
-or_none : (a b : Bool) → (a || b) ≡ false → (a ≡ false) × (b ≡ false)
-or_none false b h = (refl, h)
-or_none true b h = cc
-
 none_any : {A : Type 0} (test : A → Bool) (xs : List A) → list_any test xs ≡ false → All (λ x. test x ≡ false) xs
 none_any test [] h = All-nil (λ x. test x ≡ false)
 none_any test (x ∷ xs) h =
-    let parts = or_none (test x) (list_any test xs) h in
+    let parts = or_parts (test x) (list_any test xs) h in
     All-cons (λ x. test x ≡ false) x xs parts.0 (none_any test xs parts.1)
 
 -- a name that none of those before has
 not_again : (before : List Member) (m : Member) → again (map (λ other. other.name.text) before) m.name.text m.name.at ≡ [] → All (λ other. HasOther other m) before
 not_again [] m none = All-nil (λ other. HasOther other m)
 not_again (b ∷ before) m none =
-    let tests = or_none (bytes_eq m.name.text b.name.text) (list_any (bytes_eq m.name.text) (map (λ other. other.name.text) before)) (none_if (list_any (bytes_eq m.name.text) (map (λ other. other.name.text) (b ∷ before))) m.name.at none) in
+    let tests = or_parts (bytes_eq m.name.text b.name.text) (list_any (bytes_eq m.name.text) (map (λ other. other.name.text) before)) (none_if (list_any (bytes_eq m.name.text) (map (λ other. other.name.text) (b ∷ before))) m.name.at none) in
     All-cons (λ other. HasOther other m) b before
     (λ same. both_ways (bytes_eq m.name.text b.name.text) tests.0 (subst (λ text. bytes_eq m.name.text text ≡ true) (sym same) (bytes_same m.name.text)))
-    (not_again before m (ap (λ test. place_if test m.name.at) tests.1))
+    (not_again before m (ap (λ test. position_if test m.name.at) tests.1))
 
 -- those behind have other names than those before
 later_other : (before ms : List Member) → along doubled before ms ≡ [] → All (λ b. All (HasOther b) ms) before
@@ -100,50 +97,50 @@ all_other before (m ∷ ms) none =
     let rest = all_other (before ++ m ∷ []) ms parts.1 in
     ((All-head (λ b. All (HasOther b) ms) m [] here, rest.0), All-cons (λ m. m.inside ≡ []) m ms first.1 rest.1)
 
--- ---- paths below one front
+-- ---- paths below one prefix
 
--- a front of the path ends where a name ends
+-- a prefix of the path ends where a name ends
 abbrev IsBelow : List ℕ → List ℕ → Type 0
-IsBelow front path = (rest : List ℕ) × (path ++ 58 ∷ [] ≡ front ++ 58 ∷ rest)
+IsBelow prefix path = (rest : List ℕ) × (path ++ 58 ∷ [] ≡ prefix ++ 58 ∷ rest)
 
-below_itself : (front : List ℕ) → IsBelow front front
-below_itself front = ([], refl)
+below_itself : (prefix : List ℕ) → IsBelow prefix prefix
+below_itself prefix = ([], refl)
 
-below_below : (front name path : List ℕ) → IsBelow (path_in front name) path → IsBelow front path
-below_below front name path below = (
+below_below : (prefix name path : List ℕ) → IsBelow (path_in prefix name) path → IsBelow prefix path
+below_below prefix name path below = (
   58 ∷ name ++ 58 ∷ below.0,
-  below.1 ∙ append_assoc (front ++ codes "::") name (58 ∷ below.0) ∙ append_assoc front (codes "::") (name ++ 58 ∷ below.0),
+  below.1 ∙ append_assoc (prefix ++ codes "::") name (58 ∷ below.0) ∙ append_assoc prefix (codes "::") (name ++ 58 ∷ below.0),
 )
 
 -- below two names of one module are two paths
-other_below : (front n m path other : List ℕ) → IsName n → IsName m → n ≢ m → IsBelow (path_in front n) path → IsBelow (path_in front m) other → path ≢ other
-other_below front n m path other is named differ below there same =
+other_below : (prefix n m path other : List ℕ) → IsName n → IsName m → n ≢ m → IsBelow (path_in prefix n) path → IsBelow (path_in prefix m) other → path ≢ other
+other_below prefix n m path other is named differ below there same =
     differ (one_name n m below.0 there.0 is named
-    (append_cancel_left (front ++ codes "::") (n ++ 58 ∷ below.0) (m ++ 58 ∷ there.0)
-    (sym (append_assoc (front ++ codes "::") n (58 ∷ below.0)) ∙ sym below.1 ∙ ap (λ p. p ++ 58 ∷ []) same ∙ there.1 ∙ append_assoc (front ++ codes "::") m (58 ∷ there.0))))
+    (append_cancel_left (prefix ++ codes "::") (n ++ 58 ∷ below.0) (m ++ 58 ∷ there.0)
+    (sym (append_assoc (prefix ++ codes "::") n (58 ∷ below.0)) ∙ sym below.1 ∙ ap (λ p. p ++ 58 ∷ []) same ∙ there.1 ∙ append_assoc (prefix ++ codes "::") m (58 ∷ there.0))))
 
 -- ---- items, module by module
 
 abbrev AreBelow : List ℕ → List Defined → Type 0
-AreBelow front = All (λ d. IsBelow front d.path)
+AreBelow prefix = All (λ d. IsBelow prefix d.path)
 
--- what is so of some functions, where nothing is told of what is inside
-abbrev Facts : List ℕ → Name → List Place → List Defined → Type 0
-Facts front n inside functions = IsName n.text × AreBelow (path_in front n.text) functions × (inside ≡ [] → AreApart functions)
+-- what is so of some functions, where nothing is reported of what is inside
+abbrev Facts : List ℕ → Name → List Position → List Defined → Type 0
+Facts prefix n inside functions = IsName n.text × AreBelow (path_in prefix n.text) functions × (inside ≡ [] → AreApart functions)
 
 abbrev ItemFacts : Item → Type 0
-ItemFacts item = (front : List ℕ) → Facts front (name_of item) (member_of item).inside (functions_in item front)
+ItemFacts item = (prefix : List ℕ) → Facts prefix (name_of item) (member_of item).inside (functions_in item prefix)
 
-module _ (front : List ℕ) where
-  across : (n : Name) (d : Defined) (items : List Item) → IsName n.text → IsBelow (path_in front n.text) d.path → All ItemFacts items → All (λ item. n.text ≢ (name_of item).text) items → All (IsOther d) (flat_map (λ item. functions_in item front) items)
+module _ (prefix : List ℕ) where
+  across : (n : Name) (d : Defined) (items : List Item) → IsName n.text → IsBelow (path_in prefix n.text) d.path → All ItemFacts items → All (λ item. n.text ≢ (name_of item).text) items → All (IsOther d) (flat_map (λ item. functions_in item prefix) items)
   across n d items is below facts differ =
-      All-flat_map (IsOther d) (λ item. functions_in item front) items
+      All-flat_map (IsOther d) (λ item. functions_in item prefix) items
       (λ k one within.
       let item : Item = get_or items k one in
-      let so = facts k one within front in
-      All-weaker (λ e. IsBelow (path_in front (name_of item).text) e.path) (IsOther d)
-      (λ e there. other_below front n.text (name_of item).text d.path e.path is so.0 (differ k one within) below there)
-      (functions_in item front) so.1)
+      let so = facts k one within prefix in
+      All-weaker (λ e. IsBelow (path_in prefix (name_of item).text) e.path) (IsOther d)
+      (λ e there. other_below prefix n.text (name_of item).text d.path e.path is so.0 (differ k one within) below there)
+      (functions_in item prefix) so.1)
 
   named_apart : (n : Name) (items : List Item) → All (λ m. n.text ≢ m.name.text) (map member_of items) → All (λ item. n.text ≢ (name_of item).text) items
   named_apart n [] all = All-nil (λ item. n.text ≢ (name_of item).text)
@@ -152,50 +149,50 @@ module _ (front : List ℕ) where
       (subst (λ (name : Name). n.text ≢ name.text) (member_of-name item) (All-head (λ m. n.text ≢ m.name.text) (member_of item) (map member_of items) all))
       (named_apart n items (All-tail (λ m. n.text ≢ m.name.text) (member_of item) (map member_of items) all))
 
-  items_apart : (items : List Item) → All ItemFacts items → AreOthers (map member_of items) → All (λ m. m.inside ≡ []) (map member_of items) → AreApart (flat_map (λ item. functions_in item front) items)
+  items_apart : (items : List Item) → All ItemFacts items → AreOthers (map member_of items) → All (λ m. m.inside ≡ []) (map member_of items) → AreApart (flat_map (λ item. functions_in item prefix) items)
   items_apart [] facts others none = tt
   items_apart (item ∷ items) facts others none =
-      let so = All-head ItemFacts item items facts front in
+      let so = All-head ItemFacts item items facts prefix in
       let rest = All-tail ItemFacts item items facts in
       let differ = named_apart (name_of item) items (subst (λ (name : Name). All (λ m. name.text ≢ m.name.text) (map member_of items)) (member_of-name item) others.0) in
-      apart_both (functions_in item front) (flat_map (λ item. functions_in item front) items)
+      apart_both (functions_in item prefix) (flat_map (λ item. functions_in item prefix) items)
       (so.2 (All-head (λ m. m.inside ≡ []) (member_of item) (map member_of items) none))
       (items_apart items rest others.1 (All-tail (λ m. m.inside ≡ []) (member_of item) (map member_of items) none))
-      (All-weaker (λ d. IsBelow (path_in front (name_of item).text) d.path) (λ d. All (IsOther d) (flat_map (λ item. functions_in item front) items))
-      (λ d below. across (name_of item) d items so.0 below rest differ) (functions_in item front) so.1)
+      (All-weaker (λ d. IsBelow (path_in prefix (name_of item).text) d.path) (λ d. All (IsOther d) (flat_map (λ item. functions_in item prefix) items))
+      (λ d below. across (name_of item) d items so.0 below rest differ) (functions_in item prefix) so.1)
 
-  module_apart : (items : List Item) → All ItemFacts items → double_among (map member_of items) ≡ [] → AreApart (flat_map (λ item. functions_in item front) items)
+  module_apart : (items : List Item) → All ItemFacts items → double_among (map member_of items) ≡ [] → AreApart (flat_map (λ item. functions_in item prefix) items)
   unfolding double_among
   module_apart items facts none =
       let all = all_other [] (map member_of items) none in
       items_apart items facts all.0 all.1
 
-  module_below : (items : List Item) → All ItemFacts items → AreBelow front (flat_map (λ item. functions_in item front) items)
+  module_below : (items : List Item) → All ItemFacts items → AreBelow prefix (flat_map (λ item. functions_in item prefix) items)
   module_below items facts =
-      All-flat_map (λ d. IsBelow front d.path) (λ item. functions_in item front) items
+      All-flat_map (λ d. IsBelow prefix d.path) (λ item. functions_in item prefix) items
       (λ k one within.
       let item : Item = get_or items k one in
-      All-weaker (λ d. IsBelow (path_in front (name_of item).text) d.path) (λ d. IsBelow front d.path)
-      (λ d below. below_below front (name_of item).text d.path below)
-      (functions_in item front) (facts k one within front).1)
+      All-weaker (λ d. IsBelow (path_in prefix (name_of item).text) d.path) (λ d. IsBelow prefix d.path)
+      (λ d below. below_below prefix (name_of item).text d.path below)
+      (functions_in item prefix) (facts k one within prefix).1)
 
 -- in a tree that a text spells, and that has no name twice in a module
-pub apart : (tree : Crate) → Told (grammar.text tree) → double_in_items tree.items ≡ [] → AreApart (functions_of tree)
+pub apart : (tree : Crate) → Spelling (grammar.text tree) → double_in_items tree.items ≡ [] → AreApart (functions_of tree)
 unfolding functions_of
-apart tree told none =
+apart tree spelling none =
     let facts = of_text ItemFacts
-    (λ item is named each front.
-    let functions = module_functions item front is in (
+    (λ item is named each prefix.
+    let functions = module_functions item prefix is in (
       named,
-      subst (AreBelow (path_of item front)) (sym functions) (module_below (path_of item front) (items_in item) each),
-      λ none. subst AreApart (sym functions) (module_apart (path_of item front) (items_in item) each (sym (module_inside item is) ∙ none)),
+      subst (AreBelow (path_of item prefix)) (sym functions) (module_below (path_of item prefix) (items_in item) each),
+      λ none. subst AreApart (sym functions) (module_apart (path_of item prefix) (items_in item) each (sym (module_inside item is) ∙ none)),
     ))
-    (λ item f is no_items function front.
-    let alone = function_alone item front f is no_items in (
+    (λ item f is no_items function prefix.
+    let alone = function_alone item prefix f is no_items in (
       named_function (name_of item) f function,
-      subst (AreBelow (path_of item front)) (sym alone)
-          (All-cons (λ d. IsBelow (path_of item front) d.path) (defined item front f) [] (below_itself (path_of item front)) (All-nil (λ d. IsBelow (path_of item front) d.path))),
-      λ none. subst AreApart (sym alone) (All-nil (IsOther (defined item front f)), tt),
+      subst (AreBelow (path_of item prefix)) (sym alone)
+          (All-cons (λ d. IsBelow (path_of item prefix) d.path) (defined item prefix f) [] (below_itself (path_of item prefix)) (All-nil (λ d. IsBelow (path_of item prefix) d.path))),
+      λ none. subst AreApart (sym alone) (All-nil (IsOther (defined item prefix f)), tt),
     ))
-    tree told in
+    tree spelling in
     module_apart tree.name tree.items facts none

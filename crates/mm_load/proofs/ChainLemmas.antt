@@ -10,7 +10,7 @@ use Rattle.mm_parse.specs.Grammar as grammar
 use Rattle.mm_load.specs.WrittenItem.{path_in, functions_of}
 use Rattle.mm_load.proofs.DefinedLemmas.{defined_text}
 use Rattle.mm_load.proofs.SpelledItems.{crate_named}
-use Rattle.mm_load.proofs.SpelledLemmas.{Told}
+use Rattle.mm_load.proofs.SpelledLemmas.{Spelling}
 
 -- one name or more, joined by ::
 pub record IsChain (path : List ℕ) : Type 0 where
@@ -28,20 +28,20 @@ chain_one name named = record {
 }
 
 -- a name behind others is joined to them
-behind : (front : List (List ℕ)) (name : List ℕ) → front ≢ [] → join_by (λ name. name) (codes "::") (front ++ name ∷ []) ≡ path_in (join_by (λ name. name) (codes "::") front) name
+behind : (prefix : List (List ℕ)) (name : List ℕ) → prefix ≢ [] → join_by (λ name. name) (codes "::") (prefix ++ name ∷ []) ≡ path_in (join_by (λ name. name) (codes "::") prefix) name
 behind [] name some = absurd (some refl)
-behind (first ∷ front) name some =
-    let rest : List ℕ = flat_map (λ name. codes "::" ++ name) front in
-    ap (λ more. first ++ more) (flat_map-append (λ name. codes "::" ++ name) front (name ∷ []) ∙ ap (λ last. rest ++ last) (append-nil (codes "::" ++ name)))
+behind (first ∷ prefix) name some =
+    let rest : List ℕ = flat_map (λ name. codes "::" ++ name) prefix in
+    ap (λ more. first ++ more) (flat_map-append (λ name. codes "::" ++ name) prefix (name ∷ []) ∙ ap (λ last. rest ++ last) (append-nil (codes "::" ++ name)))
     ∙ sym (append_assoc first rest (codes "::" ++ name))
     ∙ sym (append_assoc (first ++ rest) (codes "::") name)
 
-no_end : (front : List (List ℕ)) (name : List ℕ) → front ++ name ∷ [] ≢ []
+no_end : (prefix : List (List ℕ)) (name : List ℕ) → prefix ++ name ∷ [] ≢ []
 no_end [] name none = cc
-no_end (first ∷ front) name none = cc
+no_end (first ∷ prefix) name none = cc
 
-chain_more : (front name : List ℕ) → IsChain front → IsName name → IsChain (path_in front name)
-chain_more front name chain named = record {
+chain_more : (prefix name : List ℕ) → IsChain prefix → IsName name → IsChain (path_in prefix name)
+chain_more prefix name chain named = record {
   names = chain.names ++ name ∷ [];
   some = no_end chain.names name;
   each = All-append IsName chain.names (name ∷ []) chain.each (All-cons IsName name [] named (All-nil IsName));
@@ -49,6 +49,6 @@ chain_more front name chain named = record {
 }
 
 -- in a tree that a text spells
-pub chains : (tree : Crate) → Told (grammar.text tree) → All (λ d. IsChain d.path) (functions_of tree)
-chains tree told =
-    λ k d within. (defined_text IsChain chain_more tree told (chain_one tree.name (crate_named tree told)) k d within).0
+pub chains : (tree : Crate) → Spelling (grammar.text tree) → All (λ d. IsChain d.path) (functions_of tree)
+chains tree spelling =
+    λ k d within. (defined_text IsChain chain_more tree spelling (chain_one tree.name (crate_named tree spelling)) k d within).0

@@ -1,4 +1,4 @@
--- No name has a colon, so what stands before the first one tells the name.
+-- No name has a colon, so what stands before the first one is the name.
 use Rattle.std.proofs.Common.{◌≡◌, ◌≢◌, ℕ, List, [], ◌∷◌, ◌++◌, true, refl, sym, ◌∙◌, ap, subst, append_assoc, arith}
 use Rattle.std.specs.Prelude.{All}
 use Rattle.std.specs.Str.{chars, encode_utf8_all}
@@ -29,22 +29,22 @@ no_colon (c ∷ cs) like =
 not_here : (c : ℕ) (cs r s : List ℕ) → IsOther c → 58 ∷ r ≡ encode_utf8_all (c ∷ cs) ++ 58 ∷ s → ⊥
 not_here c cs r s other same =
     let both = encode_same 58 c r (encode_utf8_all cs ++ 58 ∷ s)
-    (ap (λ front. front ++ r) (encode_ascii 58 (omega arith)) ∙ same ∙ append_assoc (encode c) (encode_utf8_all cs) (58 ∷ s)) in
+    (ap (λ prefix. prefix ++ r) (encode_ascii 58 (omega arith)) ∙ same ∙ append_assoc (encode c) (encode_utf8_all cs) (58 ∷ s)) in
     other (sym both.0)
 
-one_front : (cs ds r s : List ℕ) → All IsOther cs → All IsOther ds → encode_utf8_all cs ++ 58 ∷ r ≡ encode_utf8_all ds ++ 58 ∷ s → cs ≡ ds
-one_front [] [] r s cs_other ds_other same = refl
-one_front [] (d ∷ ds) r s cs_other ds_other same = absurd (not_here d ds r s (All-head IsOther d ds ds_other) same)
-one_front (c ∷ cs) [] r s cs_other ds_other same = absurd (not_here c cs s r (All-head IsOther c cs cs_other) (sym same))
-one_front (c ∷ cs) (d ∷ ds) r s cs_other ds_other same =
+one_prefix : (cs ds r s : List ℕ) → All IsOther cs → All IsOther ds → encode_utf8_all cs ++ 58 ∷ r ≡ encode_utf8_all ds ++ 58 ∷ s → cs ≡ ds
+one_prefix [] [] r s cs_other ds_other same = refl
+one_prefix [] (d ∷ ds) r s cs_other ds_other same = absurd (not_here d ds r s (All-head IsOther d ds ds_other) same)
+one_prefix (c ∷ cs) [] r s cs_other ds_other same = absurd (not_here c cs s r (All-head IsOther c cs cs_other) (sym same))
+one_prefix (c ∷ cs) (d ∷ ds) r s cs_other ds_other same =
     let both = encode_same c d (encode_utf8_all cs ++ 58 ∷ r) (encode_utf8_all ds ++ 58 ∷ s)
     (sym (append_assoc (encode c) (encode_utf8_all cs) (58 ∷ r)) ∙ same ∙ append_assoc (encode d) (encode_utf8_all ds) (58 ∷ s)) in
-    let rest = one_front cs ds r s (All-tail IsOther c cs cs_other) (All-tail IsOther d ds ds_other) both.1 in
+    let rest = one_prefix cs ds r s (All-tail IsOther c cs cs_other) (All-tail IsOther d ds ds_other) both.1 in
     λ i. both.0 i ∷ rest i
 
 -- two names before colons, where all is the same, are one
 pub one_name : (n m r s : List ℕ) → IsName n → IsName m → n ++ 58 ∷ r ≡ m ++ 58 ∷ s → n ≡ m
 one_name n m r s is other same =
-    let whole = one_front (chars n) (chars m) r s (no_colon (chars n) is.form) (no_colon (chars m) other.form)
-    (ap (λ front. front ++ 58 ∷ r) (encodes-chars n is.utf8) ∙ same ∙ sym (ap (λ front. front ++ 58 ∷ s) (encodes-chars m other.utf8))) in
+    let whole = one_prefix (chars n) (chars m) r s (no_colon (chars n) is.form) (no_colon (chars m) other.form)
+    (ap (λ prefix. prefix ++ 58 ∷ r) (encodes-chars n is.utf8) ∙ same ∙ sym (ap (λ prefix. prefix ++ 58 ∷ s) (encodes-chars m other.utf8))) in
     sym (encodes-chars n is.utf8) ∙ ap encode_utf8_all whole ∙ encodes-chars m other.utf8

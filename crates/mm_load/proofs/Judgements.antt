@@ -1,27 +1,27 @@
 -- What follows of the answers of all rules.
 use Rattle.std.proofs.Common.{◌≡◌, List, [], Result, Ok, Err, sym, ◌∙◌, ap, subst}
-use Rattle.mm_lex.specs.declared.token.Place.{Place}
+use Rattle.mm_lex.specs.declared.token.Position.{Position}
 use Rattle.mm_parse.specs.declared.ast.Crate.{Crate}
 use Rattle.mm_load.specs.declared.rule.Rule.{Rule}
 use Rattle.mm_load.specs.declared.rule.Rule.TheVariants.{UnknownName, DoubleName, WrongArity, BadMain, LongType}
 use Rattle.mm_load.specs.declared.load_error.LoadError as errors
 use Rattle.mm_load.specs.declared.load_error.LoadError.TheVariants.{Rule as Broken, NoMemory}
-use Rattle.mm_load.specs.Asking.{Tells, told, answered, Judges}
+use Rattle.mm_load.specs.Asking.{Reports, reported, answered, Judges}
 use Rattle.mm_load.specs.Names.{Names}
 use Rattle.mm_load.specs.WrittenItem.{Defined}
 use Rattle.mm_load.specs.Rules.{fails, before, Kept, KeepsRules, IsFirstFault}
 
--- what is told by an index and a list of functions is told of what they are
-pub asked_of : (rule : Rule) (places : Names → List Defined → List Place) (r : Result (Unit {0}) errors.LoadError) (by is : Names) (functions written : List Defined) → by ≡ is → functions ≡ written → Tells rule (places by functions) r → Tells rule (places is written) r
-asked_of rule places r by is functions written same list t = subst (λ ns. Tells rule (places ns written) r) same (subst (λ fs. Tells rule (places by fs) r) list t)
+-- what is reported by a table and a list of functions is reported of what they are
+pub asked_of : (rule : Rule) (positions : Names → List Defined → List Position) (r : Result (Unit {0}) errors.LoadError) (by is : Names) (functions written : List Defined) → by ≡ is → functions ≡ written → Reports rule (positions by functions) r → Reports rule (positions is written) r
+asked_of rule positions r by is functions written same list t = subst (λ ns. Reports rule (positions ns written) r) same (subst (λ fs. Reports rule (positions by fs) r) list t)
 
 module _ (tree : Crate) where
-  faulty : (rule : Rule) (e : errors.LoadError) → Kept tree (before rule) → told rule (fails rule tree) e → Judges tree (Err e)
+  faulty : (rule : Rule) (e : errors.LoadError) → Kept tree (before rule) → reported rule (fails rule tree) e → Judges tree (Err e)
   faulty rule (Broken which at) kept t = subst (λ r. IsFirstFault tree r at) (sym t.0) (record { earlier = kept; first = t.1 })
   faulty rule NoMemory kept t = tt
 
   -- a rule fails, and those before it are kept
-  pub judged_fault : (rule : Rule) (r : Result (Unit {0}) errors.LoadError) (e : errors.LoadError) → (x : errors.LoadError) × (r ≡ Err x) × (x ≡ e) → Kept tree (before rule) → Tells rule (fails rule tree) (Err e) → Judges tree r
+  pub judged_fault : (rule : Rule) (r : Result (Unit {0}) errors.LoadError) (e : errors.LoadError) → (x : errors.LoadError) × (r ≡ Err x) × (x ≡ e) → Kept tree (before rule) → Reports rule (fails rule tree) (Err e) → Judges tree r
   judged_fault rule r e p kept t = subst (Judges tree) (sym (p.1 ∙ ap Err p.2)) (faulty rule e kept t.answer)
 
   all_kept : Kept tree (before LongType) → fails LongType tree ≡ [] → KeepsRules tree
@@ -35,5 +35,5 @@ module _ (tree : Crate) where
   last_rule (Ok u) kept t = all_kept kept t
   last_rule (Err e) kept t = faulty LongType e kept t
 
-  pub judged_all : (r : Result (Unit {0}) errors.LoadError) → Kept tree (before LongType) → Tells LongType (fails LongType tree) r → Judges tree r
+  pub judged_all : (r : Result (Unit {0}) errors.LoadError) → Kept tree (before LongType) → Reports LongType (fails LongType tree) r → Judges tree r
   judged_all r kept t = last_rule r kept t.answer

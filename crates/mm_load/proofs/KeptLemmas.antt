@@ -1,10 +1,10 @@
--- What follows where no place is told: nothing is told of any part.
+-- What follows where no position is reported: nothing is reported of any part.
 use Rattle.std.proofs.Common.{◌≡◌, List, [], ◌∷◌, ◌++◌, Bool, true, false, not, Option, None, Some, refl}
 use Rattle.std.specs.Prelude.{All, is_none}
 use Rattle.std.specs.List.{flat_map}
 use Rattle.std.proofs.lemmas.List.Elements.{All-nil, All-cons, All-head, All-tail}
-use Rattle.mm_lex.specs.declared.token.Place.{Place}
-use Rattle.mm_load.specs.Rules.{place_if}
+use Rattle.mm_lex.specs.declared.token.Position.{Position}
+use Rattle.mm_load.specs.Rules.{position_if}
 
 pub none_both : {A : Type 0} (xs ys : List A) → xs ++ ys ≡ [] → (xs ≡ []) × (ys ≡ [])
 none_both [] ys h = (refl, h)
@@ -16,16 +16,16 @@ none_each f (x ∷ xs) h =
     let parts = none_both (f x) (flat_map f xs) h in
     All-cons (λ x. f x ≡ []) x xs parts.0 (none_each f xs parts.1)
 
--- a test that tells nothing fails
-pub none_if : (test : Bool) (at : Place) → place_if test at ≡ [] → test ≡ false
+-- a test that reports nothing fails
+pub none_if : (test : Bool) (at : Position) → position_if test at ≡ [] → test ≡ false
 none_if true at h = cc
 none_if false at h = refl
 
-pub none_unless : (test : Bool) (at : Place) → place_if (not test) at ≡ [] → test ≡ true
+pub none_unless : (test : Bool) (at : Position) → position_if (not test) at ≡ [] → test ≡ true
 none_unless true at h = refl
 none_unless false at h = cc
 
-pub some_of : {A : Type 0} (o : Option A) (at : Place) → place_if (is_none o) at ≡ [] → (x : A) × (o ≡ Some x)
+pub some_of : {A : Type 0} (o : Option A) (at : Position) → position_if (is_none o) at ≡ [] → (x : A) × (o ≡ Some x)
 some_of (Some x) at h = (x, refl)
 some_of None at h = cc
 

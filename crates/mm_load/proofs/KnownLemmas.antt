@@ -8,15 +8,16 @@ use Rattle.std.proofs.lemmas.Bool.{eqb-true, ltb-false, ltb-true, and_parts}
 use Rattle.std.proofs.lemmas.List.{length-map}
 use Rattle.std.proofs.lemmas.List.Elements.{All-nil, All-cons, All-append, All-map}
 use Rattle.std.proofs.lemmas.Option.{slice_get-map, slice_get_cases}
-use Rattle.mm_lex.specs.declared.token.Place.{Place}
+use Rattle.std.proofs.lemmas.List.Folds.{flat_map-map}
+use Rattle.mm_lex.specs.declared.token.Position.{Position}
 use Rattle.mm_terms.specs.declared.ty_head.TyHead.TheVariants.{Tuple}
 use Rattle.mm_terms.specs.Tree.{node}
 use Rattle.mm_terms.specs.Formed.{IsFormed-node}
 use Rattle.mm_terms.specs.Substitution.{param_of, ParamsBelow, ParamsBelow-node}
-use Rattle.mm_collect.specs.declared.program.Program.{Program}
-use Rattle.mm_collect.specs.declared.program.Function as made
-use Rattle.mm_collect.specs.WellFormed.{NamesNone, NamesNoDefinition, IsTypeUnder, IsPlaceOf, IsLabelOf, IsOperandOf, IsRvalueOf, IsStatementOf, IsCallIn, IsEndIn, IsBlockIn, IsFunctionIn, HasMain}
-use Rattle.mm_collect.proofs.PlainLemmas.{plain-node}
+use Rattle.mm_program.specs.declared.program.Program.{Program}
+use Rattle.mm_program.specs.declared.program.Function as made
+use Rattle.mm_program.specs.WellFormed.{NamesNone, NamesNoDefinition, IsTypeUnder, IsPlaceOf, IsLabelOf, IsOperandOf, IsRvalueOf, IsStatementOf, IsCallIn, IsEndIn, IsBlockIn, IsFunctionIn, HasMain}
+use Rattle.mm_program.proofs.PlainLemmas.{plain-node}
 use Rattle.mm_parse.specs.declared.ast.Crate.{Crate}
 use Rattle.mm_parse.specs.declared.ast.Function.{Function}
 use Rattle.mm_parse.specs.declared.ast.Type as written
@@ -36,16 +37,15 @@ use Rattle.mm_parse.specs.declared.ast.Switch.{Switch}
 use Rattle.mm_parse.specs.declared.ast.End.{End}
 use Rattle.mm_parse.specs.declared.ast.End.TheVariants as ends
 use Rattle.mm_parse.specs.declared.ast.Call.{Call}
-use Rattle.mm_load.specs.Meaning.{place_in, head_in, type_of, types_of, result_of, place_of_local, operand_of, rvalue_of, statement_of, arm_of, call_of, end_of, block_of, locals_of, function_in, function_of}
-use Rattle.mm_load.specs.Names.{Names, place_of, path_named, main_path, names_in}
-use Rattle.mm_load.specs.Rules.{place_if, of_call, unknown_head, unknown_in_type, unknown_in_types, unknown_local, unknown_label, unknown_in_operand, unknown_in_operands, unknown_in_rvalue, unknown_in_statement, unknown_in_statements, unknown_in_arms, unknown_in_switch, unknown_in_call, unknown_in_end, unknown_in_block, unknown_in_blocks, unknown_in_scope, function_at, fits, misfit_call, misfit_block, misfits_in_function, is_bare, bad_main}
+use Rattle.mm_load.specs.Meaning.{index_in, head_in, type_of, types_of, result_of, place_of_local, operand_of, rvalue_of, statement_of, arm_of, call_of, end_of, block_of, locals_of, function_in, function_of}
+use Rattle.mm_load.specs.Names.{Names, index_of, path_named, main_path, names_in}
+use Rattle.mm_load.specs.Rules.{position_if, of_call, unknown_head, unknown_in_type, unknown_in_types, unknown_local, unknown_label, unknown_in_operand, unknown_in_operands, unknown_in_rvalue, unknown_in_statement, unknown_in_statements, unknown_in_arms, unknown_in_switch, unknown_in_call, unknown_in_end, unknown_in_block, unknown_in_blocks, unknown_in_scope, function_at, fits, misfit_call, misfit_block, misfits_in_function, is_bare, bad_main}
 use Rattle.mm_load.specs.WrittenItem.{Defined, paths_to}
-use Rattle.mm_load.specs.WrittenType.{written_node, written_fold-node, written_ind}
-use Rattle.mm_load.proofs.AskingLemmas.{flat_map-map}
+use Rattle.mm_load.proofs.TypeViews.{written_node, written_fold-node, written_ind}
 use Rattle.mm_load.proofs.FormedLemmas.{IsFormedType, IsFormedEnd, IsFormedFunction}
 use Rattle.mm_load.proofs.KeptLemmas.{none_both, none_each, none_if, none_unless, some_of}
 
--- ---- where names lead
+-- ---- how names resolve
 
 suc_of : (o : Option ℕ) (k : ℕ) → option_map suc o ≡ Some k → (j : ℕ) × (o ≡ Some j) × (k ≡ suc j)
 suc_of None k h = cc
@@ -55,11 +55,11 @@ first_low : (here : Bool) (later : Option ℕ) (n k : ℕ) → ((j : ℕ) → la
 first_low true later n k low h = let is : 0 ≡ k = cc in omega (arith, is)
 first_low false later n k low h = let at = suc_of later k h in omega (arith, at.2, low at.0 at.1)
 
--- a name leads to a place in the list
-pub place_low : (names : List (List ℕ)) (name : List ℕ) (k : ℕ) → place_of names name ≡ Some k → k < length names
-place_low [] name k h = cc
-place_low (n ∷ ns) name k h =
-    let low = first_low (bytes_eq name n) (place_of ns name) (length ns) k (place_low ns name) h in
+-- a name resolves to an index of the list
+pub index_low : (names : List (List ℕ)) (name : List ℕ) (k : ℕ) → index_of names name ≡ Some k → k < length names
+index_low [] name k h = cc
+index_low (n ∷ ns) name k h =
+    let low = first_low (bytes_eq name n) (index_of ns name) (length ns) k (index_low ns name) h in
     omega (arith, low)
 
 pub found : {X : Type 0} (xs : List X) (i : ℕ) → i < length xs → (x : X) × (slice_get xs i ≡ Some x)
@@ -68,10 +68,10 @@ found xs i within = ⊎_elim (λ here. (here.0, here.2)) (λ past. absurd (omega
 -- ---- types
 
 module _ (scope : Names) (n : ℕ) (low : (name : List ℕ) (k : ℕ) → scope name ≡ Some k → k < n) where
-  head_low : (at : Place) (head : Head) → unknown_head scope at head ≡ [] → All (λ i. i < n) (param_of (head_in scope head))
+  head_low : (at : Position) (head : Head) → unknown_head scope at head ≡ [] → All (λ i. i < n) (param_of (head_in scope head))
   head_low at (heads.Param name) none =
       let is = some_of (scope name) at none in
-      All-cons (λ i. i < n) (place_in scope name) [] (subst (λ o. unwrap_or o 0 < n) (sym is.1) (low name is.0 is.1)) (All-nil (λ i. i < n))
+      All-cons (λ i. i < n) (index_in scope name) [] (subst (λ o. unwrap_or o 0 < n) (sym is.1) (low name is.0 is.1)) (All-nil (λ i. i < n))
   head_low at heads.U64 none = All-nil (λ i. i < n)
   head_low at heads.Bool none = All-nil (λ i. i < n)
   head_low at heads.Tuple none = All-nil (λ i. i < n)
@@ -89,12 +89,12 @@ module _ (scope : Names) (n : ℕ) (low : (name : List ℕ) (k : ℕ) → scope 
   abbrev Known : written.Type → Type 0
   Known t = unknown_in_type scope t ≡ [] → ParamsBelow n (type_of scope t) × NamesNoDefinition (type_of scope t)
 
-  known_node : (at : Place) (head : Head) (children : List written.Type) → All Known children → Known (written_node at head children)
+  known_node : (at : Position) (head : Head) (children : List written.Type) → All Known children → Known (written_node at head children)
   unfolding unknown_in_type type_of
   known_node at head children each none =
-      let places = written_fold-node (λ at head below. unknown_head scope at head ++ flat_map (λ places. places) below) at head children in
-      let parts = none_both (unknown_head scope at head) (flat_map (λ places. places) (map (unknown_in_type scope) children)) (sym places ∙ none) in
-      let below = none_each (unknown_in_type scope) children (sym (flat_map-map (λ places. places) (unknown_in_type scope) children) ∙ parts.1) in
+      let positions = written_fold-node (λ at head below. unknown_head scope at head ++ flat_map (λ positions. positions) below) at head children in
+      let parts = none_both (unknown_head scope at head) (flat_map (λ positions. positions) (map (unknown_in_type scope) children)) (sym positions ∙ none) in
+      let below = none_each (unknown_in_type scope) children (sym (flat_map-map (λ positions. positions) (unknown_in_type scope) children) ∙ parts.1) in
       let is : type_of scope (written_node at head children) ≡ node (head_in scope head) (map (type_of scope) children) = written_fold-node (λ at head children. node (head_in scope head) children) at head children in (
         subst (ParamsBelow n) (sym is)
             (ParamsBelow-node n (head_in scope head) (map (type_of scope) children) (head_low at head parts.0)
@@ -180,7 +180,7 @@ module _ (w : Function) (f : made.Function) (locals : length f.locals ≡ 1 + (l
       let each = none_each (λ arm. unknown_label w arm.label) arms none in
       All-map (λ arm. IsLabelOf f arm.label) arm_of arms (λ k d within. known_label (get_or arms k d).label (each k d within))
 
-  -- the calls lead to functions of the program
+  -- the calls resolve to functions of the program
   module _ (p : Program) (functions : List Defined) (are : p.functions ≡ map (function_of (paths_to functions)) functions) where
     abbrev paths : Names
     paths = paths_to functions
@@ -189,34 +189,34 @@ module _ (w : Function) (f : made.Function) (locals : length f.locals ≡ 1 + (l
     named_at k d at =
         ap (λ fs. slice_get fs k) are ∙ slice_get-map (function_of paths) functions k ∙ ap (option_map (function_of paths)) at
 
-    -- where a path leads
-    led : (path : List ℕ) (k : ℕ) → paths path ≡ Some k → (d : Defined) × (slice_get functions k ≡ Some d)
-    led path k leads =
-        let low = place_low (map (λ d. d.path) functions) path k leads in
+    -- how a path resolves
+    resolved : (path : List ℕ) (k : ℕ) → paths path ≡ Some k → (d : Defined) × (slice_get functions k ≡ Some d)
+    resolved path k look_up =
+        let low = index_low (map (λ d. d.path) functions) path k look_up in
         found functions k (omega (arith, low, length-map functions (λ (d : Defined). d.path)))
 
     fitting : (call : Call) (k : ℕ) (d : Defined) → paths (path_named call.callee) ≡ Some k → slice_get functions k ≡ Some d → misfit_call paths functions call ≡ [] → fits call d.function ≡ true
     unfolding misfit_call
-    fitting call k d leads at none =
-        let is : function_at paths functions (path_named call.callee) ≡ Some d = ap (option_and_then (slice_get functions)) leads ∙ at in
+    fitting call k d look_up at none =
+        let is : function_at paths functions (path_named call.callee) ≡ Some d = ap (option_and_then (slice_get functions)) look_up ∙ at in
         none_unless (fits call d.function) call.callee.at
-        (subst (λ o. option_map_or (λ callee. place_if (not (fits call callee.function)) call.callee.at) o [] ≡ []) is none)
+        (subst (λ o. option_map_or (λ callee. position_if (not (fits call callee.function)) call.callee.at) o [] ≡ []) is none)
 
     module _ (scope : Names) (low : (name : List ℕ) (k : ℕ) → scope name ≡ Some k → k < f.type_params) where
       known_call : (call : Call) → unknown_in_call paths scope w call ≡ [] → misfit_call paths functions call ≡ [] → All IsFormedType call.args → IsCallIn p f (call_of paths scope call)
       unfolding unknown_in_call call_of function_in types_of
       known_call call none fit formed =
-          let callee_part : List Place = place_if (is_none (paths (path_named call.callee))) call.callee.at in
+          let callee_part : List Position = position_if (is_none (paths (path_named call.callee))) call.callee.at in
           let e = none_both (unknown_local w call.place ++ callee_part ++ unknown_in_types scope call.args ++ unknown_in_operands w call.operands) (unknown_label w call.target) none in
           let d = none_both (unknown_local w call.place ++ callee_part ++ unknown_in_types scope call.args) (unknown_in_operands w call.operands) e.0 in
           let c = none_both (unknown_local w call.place ++ callee_part) (unknown_in_types scope call.args) d.0 in
           let b = none_both (unknown_local w call.place) callee_part c.0 in
-          let leads = some_of (paths (path_named call.callee)) call.callee.at b.1 in
-          let callee = led (path_named call.callee) leads.0 leads.1 in
-          let both = and_parts (nat_eq (length call.args) (length callee.0.function.type_params)) (nat_eq (length call.operands) (length callee.0.function.params)) (fitting call leads.0 callee.0 leads.1 callee.1 fit) in
+          let look_up = some_of (paths (path_named call.callee)) call.callee.at b.1 in
+          let callee = resolved (path_named call.callee) look_up.0 look_up.1 in
+          let both = and_parts (nat_eq (length call.args) (length callee.0.function.type_params)) (nat_eq (length call.operands) (length callee.0.function.params)) (fitting call look_up.0 callee.0 look_up.1 callee.1 fit) in
           record {
             callee = function_of paths callee.0;
-            named = ap (λ o. slice_get p.functions (unwrap_or o 0)) leads.1 ∙ named_at leads.0 callee.0 callee.1;
+            named = ap (λ o. slice_get p.functions (unwrap_or o 0)) look_up.1 ∙ named_at look_up.0 callee.0 callee.1;
             type_args = length-map call.args (type_of scope) ∙ eqb-true (length call.args) (length callee.0.function.type_params) both.0;
             args = length-map call.operands operand_of ∙ eqb-true (length call.operands) (length callee.0.function.params) both.1;
             types = types_under scope f.type_params low call.args formed c.1;
@@ -254,25 +254,25 @@ locals_length scope w =
     omega (arith, length-append (map (type_of scope) w.params) (map (type_of scope) w.lets), length-map w.params (type_of scope), length-map w.lets (type_of scope))
 
 module _ (p : Program) (functions : List Defined) (are : p.functions ≡ map (function_of (paths_to functions)) functions) where
-  abbrev leads : Names
-  leads = paths_to functions
+  abbrev look_up : Names
+  look_up = paths_to functions
 
-  module _ (d : Defined) (formed : IsFormedFunction d.function) (none : unknown_in_scope leads (names_in d.function) d.function ≡ []) (fit : misfits_in_function leads functions d.function ≡ []) where
-    pub known_function : IsFunctionIn p (function_of leads d)
+  module _ (d : Defined) (formed : IsFormedFunction d.function) (none : unknown_in_scope look_up (names_in d.function) d.function ≡ []) (fit : misfits_in_function look_up functions d.function ≡ []) where
+    pub known_function : IsFunctionIn p (function_of look_up d)
     unfolding unknown_in_scope unknown_in_blocks misfits_in_function function_in locals_of
     known_function =
         let w : Function = d.function in
         let scope : Names = names_in w in
-        let f : made.Function = function_of leads d in
+        let f : made.Function = function_of look_up d in
         let low : (name : List ℕ) (k : ℕ) → scope name ≡ Some k → k < length w.type_params =
-        λ name k is. (let inside = place_low (map (λ n. n.text) w.type_params) name k is in omega (arith, inside, length-map w.type_params (λ n. n.text))) in
-        let c = none_both (unknown_in_types scope w.params ++ option_map_or (unknown_in_type scope) w.result [] ++ unknown_in_types scope w.lets) (unknown_in_blocks leads scope w w.blocks) none in
+        λ name k is. (let inside = index_low (map (λ n. n.text) w.type_params) name k is in omega (arith, inside, length-map w.type_params (λ n. n.text))) in
+        let c = none_both (unknown_in_types scope w.params ++ option_map_or (unknown_in_type scope) w.result [] ++ unknown_in_types scope w.lets) (unknown_in_blocks look_up scope w w.blocks) none in
         let b = none_both (unknown_in_types scope w.params ++ option_map_or (unknown_in_type scope) w.result []) (unknown_in_types scope w.lets) c.0 in
         let a = none_both (unknown_in_types scope w.params) (option_map_or (unknown_in_type scope) w.result []) b.0 in
-        let each = none_each (unknown_in_block leads scope w) w.blocks c.1 in
-        let fitting = none_each (misfit_block leads functions) w.blocks fit in
+        let each = none_each (unknown_in_block look_up scope w) w.blocks c.1 in
+        let fitting = none_each (misfit_block look_up functions) w.blocks fit in
         let many : length f.locals ≡ 1 + (length w.params + length w.lets) = locals_length scope w in
-        let blocks : length f.blocks ≡ length w.blocks = length-map w.blocks (block_of leads scope) in
+        let blocks : length f.blocks ≡ length w.blocks = length-map w.blocks (block_of look_up scope) in
         let few_locals = formed.few_locals in
         let some_block = formed.some_block in
         let few_blocks = formed.few_blocks in
@@ -288,13 +288,13 @@ module _ (p : Program) (functions : List Defined) (are : p.functions ≡ map (fu
           some_block = omega (arith, blocks, some_block);
           few_blocks = omega (arith, blocks, few_blocks);
           blocks =
-              All-map (IsBlockIn p f) (block_of leads scope) w.blocks
+              All-map (IsBlockIn p f) (block_of look_up scope) w.blocks
               (λ k d within. known_block w f many blocks p functions are scope low (get_or w.blocks k d) (each k d within) (fitting k d within) (formed.blocks k d within));
         }
 
   -- ---- main
 
-  kept_some : {X : Type 0} (g : X → List Place) (o : Option X) (at : Place) → option_map_or g o (at ∷ []) ≡ [] → (x : X) × (o ≡ Some x) × (g x ≡ [])
+  kept_some : {X : Type 0} (g : X → List Position) (o : Option X) (at : Position) → option_map_or g o (at ∷ []) ≡ [] → (x : X) × (o ≡ Some x) × (g x ≡ [])
   kept_some g None at h = cc
   kept_some g (Some x) at h = (x, refl, h)
 
@@ -302,18 +302,18 @@ module _ (p : Program) (functions : List Defined) (are : p.functions ≡ map (fu
   looked_up None d h = cc
   looked_up (Some k) d h = (k, refl, h)
 
-  pub known_main : (tree : Crate) → bad_main leads functions tree ≡ [] → p.main.0 ≡ place_in leads (main_path tree.name) → HasMain p
+  pub known_main : (tree : Crate) → bad_main look_up functions tree ≡ [] → p.main.0 ≡ index_in look_up (main_path tree.name) → HasMain p
   unfolding bad_main function_in
   known_main tree none main =
-      let kept = kept_some (λ main. place_if (not (is_bare main.function)) main.at) (function_at leads functions (main_path tree.name)) tree.at none in
+      let kept = kept_some (λ main. position_if (not (is_bare main.function)) main.at) (function_at look_up functions (main_path tree.name)) tree.at none in
       let d : Defined = kept.0 in
-      let at = looked_up (leads (main_path tree.name)) d kept.1 in
+      let at = looked_up (look_up (main_path tree.name)) d kept.1 in
       let bare = and_parts (nat_eq (length d.function.type_params) 0) (nat_eq (length d.function.params) 0) (none_unless (is_bare d.function) d.at kept.2) in
       record {
-        main = function_of leads d;
+        main = function_of look_up d;
         named =
             ap (slice_get p.functions) (main ∙ ap (λ o. unwrap_or o 0) at.1)
-            ∙ ap (λ fs. slice_get fs at.0) are ∙ slice_get-map (function_of leads) functions at.0 ∙ ap (option_map (function_of leads)) at.2;
+            ∙ ap (λ fs. slice_get fs at.0) are ∙ slice_get-map (function_of look_up) functions at.0 ∙ ap (option_map (function_of look_up)) at.2;
         no_type_params = eqb-true (length d.function.type_params) 0 bare.0;
         no_params = eqb-true (length d.function.params) 0 bare.1;
       }

@@ -5,8 +5,8 @@ use Rattle.std.specs.Option.{option_map}
 use Rattle.std.proofs.lemmas.List.{length-map}
 use Rattle.std.proofs.lemmas.List.Elements.{All-map}
 use Rattle.std.proofs.lemmas.Option.{slice_get-map}
-use Rattle.mm_collect.specs.Uses.{function_path}
-use Rattle.mm_collect.specs.declared.program.Program.{Program}
+use Rattle.mm_program.specs.Uses.{function_path}
+use Rattle.mm_program.specs.declared.program.Program.{Program}
 use Rattle.mm_lex.specs.declared.token.Token.{Token}
 use Rattle.mm_lex.specs.LexTokens.{IsName}
 use Rattle.mm_lex.specs.LexText.{AreTokensOf}
@@ -16,12 +16,12 @@ use Rattle.mm_load.specs.declared.rule.Rule.TheVariants.{DoubleName}
 use Rattle.mm_load.specs.Meaning.{function_of, function_in, program_in, program_of, IsProgram}
 use Rattle.mm_load.specs.Rules.{fails, KeepsRules}
 use Rattle.mm_load.specs.WrittenItem.{Defined, functions_of, paths_in}
-use Rattle.mm_load.proofs.ApartLemmas.{one_place, apart}
+use Rattle.mm_load.proofs.ApartLemmas.{one_index, apart}
 use Rattle.mm_load.proofs.ChainLemmas.{IsChain, chains}
 use Rattle.mm_load.proofs.KnownLemmas.{found}
 use Rattle.mm_load.proofs.SpelledItems.{crate_named}
-use Rattle.mm_load.proofs.SpelledLemmas.{Told}
-use Rattle.mm_load.proofs.WellFormedLemmas.{told_text}
+use Rattle.mm_load.proofs.SpelledLemmas.{Spelling}
+use Rattle.mm_load.proofs.WellFormedLemmas.{spelling_text}
 
 -- the crate has a name, each path is a chain of names, and no two functions have one path
 pub record HavePaths (p : Program) : Type 0 where
@@ -29,14 +29,14 @@ pub record HavePaths (p : Program) : Type 0 where
   pub each : All (λ f. IsChain f.path) p.functions
   pub one : (c d : ℕ) → c < length p.functions → d < length p.functions → function_path (slice_get p.functions c) ≡ function_path (slice_get p.functions d) → c ≡ d
 
-module _ (tree : Crate) (kept : KeepsRules tree) (told : Told (grammar.text tree)) where
+module _ (tree : Crate) (kept : KeepsRules tree) (spelling : Spelling (grammar.text tree)) where
   krate_named : IsName (program_of tree).krate
   unfolding program_in
-  krate_named = crate_named tree told
+  krate_named = crate_named tree spelling
 
   each_chain : All (λ f. IsChain f.path) (program_of tree).functions
   unfolding program_in function_in
-  each_chain = All-map (λ f. IsChain f.path) (function_of (paths_in tree)) (functions_of tree) (λ k d within. chains tree told k d within)
+  each_chain = All-map (λ f. IsChain f.path) (function_of (paths_in tree)) (functions_of tree) (λ k d within. chains tree spelling k d within)
 
   path_at : (c : ℕ) (d : Defined) → slice_get (functions_of tree) c ≡ Some d → function_path (slice_get (program_of tree).functions c) ≡ d.path
   unfolding program_in function_in
@@ -51,10 +51,10 @@ module _ (tree : Crate) (kept : KeepsRules tree) (told : Told (grammar.text tree
   one_each c d low within same =
       let first = found (functions_of tree) c (subst (λ n. c < n) as_many low) in
       let second = found (functions_of tree) d (subst (λ n. d < n) as_many within) in
-      one_place (functions_of tree) (apart tree told (kept DoubleName)) c d first.0 second.0 first.1 second.1
+      one_index (functions_of tree) (apart tree spelling (kept DoubleName)) c d first.0 second.0 first.1 second.1
       (sym (path_at c first.0 first.1) ∙ same ∙ path_at d second.0 second.1)
 
 pub means_paths : (text : List ℕ) (tokens : List Token) (tree : Crate) (p : Program) → AreTokensOf text tokens → grammar.text tree tokens → IsProgram tree p → HavePaths p
 means_paths text tokens tree p lexed spelled is =
-    let told = told_text text tokens tree lexed spelled in
-    subst HavePaths (sym is.means) (record { krate = krate_named tree is.kept told; each = each_chain tree is.kept told; one = one_each tree is.kept told })
+    let spelling = spelling_text text tokens tree lexed spelled in
+    subst HavePaths (sym is.means) (record { krate = krate_named tree is.kept spelling; each = each_chain tree is.kept spelling; one = one_each tree is.kept spelling })

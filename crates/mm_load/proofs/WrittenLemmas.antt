@@ -2,26 +2,27 @@
 use Rattle.std.proofs.Common.{◌≡◌, ℕ, zero, suc, ◌+◌, ◌<◌, ◌≤◌, length, sum, take, get_or, arith, List, [], ◌∷◌, ◌++◌, map, Result, sym, ◌∙◌, ap, subst}
 use Rattle.std.proofs.lemmas.List.Sums.{sum_by-cons}
 use Rattle.std.specs.List.{flat_map}
+use Rattle.std.proofs.lemmas.List.Folds.{flat_map-map}
 use Rattle.mm_terms.specs.Tree.{node}
 use Rattle.mm_load.specs.Meaning.{head_in, type_of}
 use Rattle.mm_load.specs.declared.rule.Rule.{Rule}
 use Rattle.mm_load.specs.declared.load_error.LoadError.{LoadError}
-use Rattle.mm_load.specs.Asking.{Tells}
+use Rattle.mm_load.specs.Asking.{Reports}
 use Rattle.mm_parse.specs.declared.ast.Type as written
 use Rattle.mm_load.specs.Names.{Names}
 use Rattle.mm_load.specs.Rules.{unknown_head, unknown_in_type, type_length}
-use Rattle.mm_load.proofs.AskingLemmas.{flat_map-map}
-use Rattle.mm_load.specs.WrittenType.{at_of, head_of, children_of, written_fold-parts}
+use Rattle.mm_load.specs.WrittenType.{at_of}
+use Rattle.mm_load.proofs.TypeViews.{head_of, children_of, written_fold-parts}
 
 pub unknown_in_type-parts : (scope : Names) (t : written.Type) → unknown_in_type scope t ≡ unknown_head scope (at_of t) (head_of t) ++ flat_map (unknown_in_type scope) (children_of t)
 unfolding unknown_in_type
 unknown_in_type-parts scope t =
-    written_fold-parts (λ at head below. unknown_head scope at head ++ flat_map (λ places. places) below) t
-    ∙ ap (λ ps. unknown_head scope (at_of t) (head_of t) ++ ps) (flat_map-map (λ places. places) (unknown_in_type scope) (children_of t))
+    written_fold-parts (λ at head below. unknown_head scope at head ++ flat_map (λ positions. positions) below) t
+    ∙ ap (λ ps. unknown_head scope (at_of t) (head_of t) ++ ps) (flat_map-map (λ positions. positions) (unknown_in_type scope) (children_of t))
 
--- what is told of the head and the types below it is told of the type
-pub tells_in_type : (rule : Rule) (scope : Names) (t : written.Type) (r : Result (Unit {0}) LoadError) → Tells rule (unknown_head scope (at_of t) (head_of t) ++ flat_map (unknown_in_type scope) (children_of t)) r → Tells rule (unknown_in_type scope t) r
-tells_in_type rule scope t r tells = subst (λ ps. Tells rule ps r) (sym (unknown_in_type-parts scope t)) tells
+-- what is reported of the head and the types below it is reported of the type
+pub reports_in_type : (rule : Rule) (scope : Names) (t : written.Type) (r : Result (Unit {0}) LoadError) → Reports rule (unknown_head scope (at_of t) (head_of t) ++ flat_map (unknown_in_type scope) (children_of t)) r → Reports rule (unknown_in_type scope t) r
+reports_in_type rule scope t r reports = subst (λ ps. Reports rule ps r) (sym (unknown_in_type-parts scope t)) reports
 
 -- the head counts one, and each type below it its own length
 pub type_length-parts : (t : written.Type) → type_length t ≡ 1 + sum (map type_length (children_of t))

@@ -1,4 +1,4 @@
--- The program that a tree means: each name is replaced by the place to which it leads.
+-- The program that a tree means: each name is replaced by the index to which it resolves.
 use Rattle.std.specs.Prelude.{◌≡◌, ℕ, List, [], ◌∷◌, ◌++◌, length, map, Option, None, Some, unwrap_or}
 use Rattle.mm_parse.specs.declared.ast.Crate.{Crate}
 use Rattle.mm_parse.specs.declared.ast.Function as written_function
@@ -24,37 +24,37 @@ use Rattle.mm_terms.specs.declared.ty_head.TyHead.{TyHead}
 use Rattle.mm_terms.specs.declared.ty_head.TyHead.TheVariants.{Param, U64, Bool, Tuple, Ref, Boxed}
 use Rattle.mm_terms.specs.declared.tree.Tree.{Tree}
 use Rattle.mm_terms.specs.Tree.{node}
-use Rattle.mm_collect.specs.declared.program.Program.{Program}
-use Rattle.mm_collect.specs.declared.program.Function.{Function}
-use Rattle.mm_collect.specs.declared.program.Block.{Block}
-use Rattle.mm_collect.specs.declared.program.End.{End}
-use Rattle.mm_collect.specs.declared.program.End.TheVariants as ends
-use Rattle.mm_collect.specs.declared.program.Call.{Call}
-use Rattle.mm_collect.specs.declared.program.Place.{Place}
-use Rattle.mm_collect.specs.declared.program.Statement.{Statement}
-use Rattle.mm_collect.specs.declared.program.Statement.TheVariants as statements
-use Rattle.mm_collect.specs.declared.program.Rvalue.{Rvalue}
-use Rattle.mm_collect.specs.declared.program.Rvalue.TheVariants as rvalues
-use Rattle.mm_collect.specs.declared.program.Op.{Op}
-use Rattle.mm_collect.specs.declared.program.Op.TheVariants as ops
-use Rattle.mm_collect.specs.declared.program.Arm.{Arm}
-use Rattle.mm_collect.specs.declared.program.Operand.{Operand}
-use Rattle.mm_collect.specs.declared.program.Operand.TheVariants.{Copy, Move, Num, Truth}
+use Rattle.mm_program.specs.declared.program.Program.{Program}
+use Rattle.mm_program.specs.declared.program.Function.{Function}
+use Rattle.mm_program.specs.declared.program.Block.{Block}
+use Rattle.mm_program.specs.declared.program.End.{End}
+use Rattle.mm_program.specs.declared.program.End.TheVariants as ends
+use Rattle.mm_program.specs.declared.program.Call.{Call}
+use Rattle.mm_program.specs.declared.program.Place.{Place}
+use Rattle.mm_program.specs.declared.program.Statement.{Statement}
+use Rattle.mm_program.specs.declared.program.Statement.TheVariants as statements
+use Rattle.mm_program.specs.declared.program.Rvalue.{Rvalue}
+use Rattle.mm_program.specs.declared.program.Rvalue.TheVariants as rvalues
+use Rattle.mm_program.specs.declared.program.Op.{Op}
+use Rattle.mm_program.specs.declared.program.Op.TheVariants as ops
+use Rattle.mm_program.specs.declared.program.Arm.{Arm}
+use Rattle.mm_program.specs.declared.program.Operand.{Operand}
+use Rattle.mm_program.specs.declared.program.Operand.TheVariants.{Copy, Move, Num, Truth}
 use Rattle.mm_load.specs.Names.{Names, path_named, main_path, names_in}
 use Rattle.mm_load.specs.WrittenItem.{Defined, functions_of, paths_in}
 use Rattle.mm_load.specs.Rules.{KeepsRules}
 use Rattle.mm_load.specs.WrittenType.{written_fold}
 
--- the place to which a name leads; one that leads nowhere stands in no tree that keeps the rules
-abbrev pub place_in : Names → List ℕ → ℕ
-place_in names name = unwrap_or (names name) 0
+-- the index to which a name resolves; one that resolves to nothing stands in no tree that keeps the rules
+abbrev pub index_in : Names → List ℕ → ℕ
+index_in names name = unwrap_or (names name) 0
 
 abbrev pub def_id : ℕ → DefId
 def_id n = record { 0 = n }
 
--- a type parameter is told by its place
+-- a type parameter is named by its index
 abbrev pub head_in : Names → Head → TyHead
-head_in scope (heads.Param name) = Param (place_in scope name)
+head_in scope (heads.Param name) = Param (index_in scope name)
 head_in scope heads.U64 = U64
 head_in scope heads.Bool = Bool
 head_in scope heads.Tuple = Tuple
@@ -106,7 +106,7 @@ unfoldable pub call_of : Names → Names → written_call.Call → Call
 call_of paths scope call =
     record {
       place = place_of_local call.place;
-      callee = def_id (place_in paths (path_named call.callee));
+      callee = def_id (index_in paths (path_named call.callee));
       args = types_of scope call.args;
       operands = map operand_of call.operands;
       target = call.target.number;
@@ -145,7 +145,7 @@ program_in paths functions tree =
     record {
       krate = tree.name;
       functions = map (function_of paths) functions;
-      main = def_id (place_in paths (main_path tree.name));
+      main = def_id (index_in paths (main_path tree.name));
     }
 
 abbrev pub program_of : Crate → Program

@@ -1,14 +1,14 @@
 //! The function with which a run begins.
 ghost use Rattle.std.specs.Prelude.{◌≡◌, map};
-ghost use Rattle.mm_load.specs.Asking.{Tells};
-ghost use Rattle.mm_load.specs.Names.{leads};
+ghost use Rattle.mm_load.specs.Asking.{Reports};
+ghost use Rattle.mm_load.specs.Names.{look_up};
 ghost use Rattle.mm_load.specs.Seen.{function_seen};
 ghost use Rattle.mm_load.specs.Rules.{is_bare, bad_main};
 ghost use Rattle.mm_load.specs.declared.rule.Rule.TheVariants.{BadMain};
 
 use crate::functions::{Defined, path_in};
-use crate::index::{Index, function_at};
 use crate::load_error::{LoadError, fault_if};
+use crate::name_table::{NameTable, function_at};
 use crate::rule::Rule;
 use mm_parse::ast;
 use std::alloc::Global;
@@ -24,11 +24,11 @@ fn is_bare(function: &ast::Function) -> bool
 #[tactic(auto, unfolding(crate::specs::Rules::bad_main))]
 pub fn check(
     alloc: Global,
-    paths: &Index<'_>,
+    paths: &NameTable<'_>,
     functions: &[Defined<'_>],
     tree: &ast::Crate,
 ) -> Result<(), LoadError>
-    ensures { Tells BadMain (bad_main (leads paths.now) (map function_seen functions.now) tree.now) result }
+    ensures { Reports BadMain (bad_main (look_up paths.now) (map function_seen functions.now) tree.now) result }
 {
     let path = path_in(alloc, tree.name.as_slice(), b"main")?;
     match function_at(paths, functions, path.as_slice()) {

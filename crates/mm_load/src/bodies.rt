@@ -1,12 +1,12 @@
 //! The blocks of a program, made of those of its tree.
 ghost use Rattle.std.specs.Prelude.{◌≡◌, map, IfOk};
 ghost use Rattle.mm_load.specs.Meaning.{place_of_local, operand_of, op_of, rvalue_of, statement_of, arm_of, call_of, end_of, block_of};
-ghost use Rattle.mm_load.specs.Names.{leads};
+ghost use Rattle.mm_load.specs.Names.{look_up};
 
-use crate::index::{Index, path_text};
-use crate::types::{load_types, place};
-use mm_collect::{Arm, Block, Call, End, Op, Operand, Place, Rvalue, Statement};
+use crate::name_table::{NameTable, path_text};
+use crate::types::{index_in, load_types};
 use mm_parse::ast;
+use mm_program::{Arm, Block, Call, End, Op, Operand, Place, Rvalue, Statement};
 use mm_terms::{DefId, NoMemory};
 use sqlite_items::Items;
 use std::alloc::Global;
@@ -117,16 +117,16 @@ fn load_arms(alloc: Global, arms: &[ast::Arm]) -> Result<Items<Arm>, NoMemory>
 #[tactic(auto, unfolding(crate::specs::Meaning::call_of))]
 fn load_call(
     alloc: Global,
-    paths: &Index<'_>,
-    scope: &Index<'_>,
+    paths: &NameTable<'_>,
+    scope: &NameTable<'_>,
     call: &ast::Call,
 ) -> Result<Call, NoMemory>
-    ensures { IfOk result (λ c. c ≡ call_of (leads paths.now) (leads scope.now) call.now) }
+    ensures { IfOk result (λ c. c ≡ call_of (look_up paths.now) (look_up scope.now) call.now) }
 {
     let path = path_text(alloc, &call.callee)?;
     Ok(Call {
         place: load_place(call.place),
-        callee: DefId(place(paths, path.as_slice())),
+        callee: DefId(index_in(paths, path.as_slice())),
         args: load_types(alloc, scope, call.args.as_slice())?,
         operands: load_operands(alloc, call.operands.as_slice())?,
         target: call.target.number,
@@ -136,11 +136,11 @@ fn load_call(
 #[tactic(auto, unfolding(crate::specs::Meaning::end_of))]
 fn load_end(
     alloc: Global,
-    paths: &Index<'_>,
-    scope: &Index<'_>,
+    paths: &NameTable<'_>,
+    scope: &NameTable<'_>,
     end: &ast::End,
 ) -> Result<End, NoMemory>
-    ensures { IfOk result (λ e. e ≡ end_of (leads paths.now) (leads scope.now) end.now) }
+    ensures { IfOk result (λ e. e ≡ end_of (look_up paths.now) (look_up scope.now) end.now) }
 {
     match end {
         ast::End::Return => Ok(End::Return),
@@ -158,11 +158,11 @@ fn load_end(
 #[tactic(auto, unfolding(crate::specs::Meaning::block_of))]
 fn load_block(
     alloc: Global,
-    paths: &Index<'_>,
-    scope: &Index<'_>,
+    paths: &NameTable<'_>,
+    scope: &NameTable<'_>,
     block: &ast::Block,
 ) -> Result<Block, NoMemory>
-    ensures { IfOk result (λ b. b ≡ block_of (leads paths.now) (leads scope.now) block.now) }
+    ensures { IfOk result (λ b. b ≡ block_of (look_up paths.now) (look_up scope.now) block.now) }
 {
     Ok(Block {
         statements: load_statements(alloc, block.statements.as_slice())?,
@@ -172,11 +172,11 @@ fn load_block(
 
 pub fn load_blocks(
     alloc: Global,
-    paths: &Index<'_>,
-    scope: &Index<'_>,
+    paths: &NameTable<'_>,
+    scope: &NameTable<'_>,
     blocks: &[ast::Block],
 ) -> Result<Items<Block>, NoMemory>
-    ensures { IfOk result (λ bs. bs ≡ map (block_of (leads paths.now) (leads scope.now)) blocks.now) }
+    ensures { IfOk result (λ bs. bs ≡ map (block_of (look_up paths.now) (look_up scope.now)) blocks.now) }
 {
     let mut loaded = Items::new(alloc);
     for block in blocks {

@@ -1,19 +1,23 @@
 //! Names that stand twice.
 ghost use Rattle.std.specs.Prelude.{◌≡◌, [], ◌∷◌, ◌++◌, map, OnOk};
-ghost use Rattle.mm_load.specs.Asking.{Tells};
+ghost use Rattle.mm_load.specs.Asking.{Reports};
 ghost use Rattle.mm_load.specs.Rules.{again, repeated, repeated_in, member_of, double_in_items};
 ghost use Rattle.mm_load.specs.declared.rule.Rule.TheVariants.{DoubleName};
 
 use crate::load_error::{LoadError, fault_if};
 use crate::rule::Rule;
 use indexmap::IndexSet;
-use mm_lex::Place;
+use mm_lex::Position;
 use mm_parse::ast;
 use std::alloc::Global;
 
 /// Adds a name to those that were seen.
-fn check_name<'a>(seen: &mut IndexSet<&'a [u8]>, name: &'a [u8], at: Place) -> Result<(), LoadError>
-    ensures answer { Tells DoubleName (again (map (λ k. k.now) seen.old.keys) name.now at) result }
+fn check_name<'a>(
+    seen: &mut IndexSet<&'a [u8]>,
+    name: &'a [u8],
+    at: Position,
+) -> Result<(), LoadError>
+    ensures answer { Reports DoubleName (again (map (λ k. k.now) seen.old.keys) name.now at) result }
     ensures seen { OnOk result (map (λ k. k.now) seen.new.keys ≡ map (λ k. k.now) seen.old.keys ++ name.now ∷ []) }
 {
     let (_, is_new) = seen.insert_full(name)?;
@@ -22,7 +26,7 @@ fn check_name<'a>(seen: &mut IndexSet<&'a [u8]>, name: &'a [u8], at: Place) -> R
 
 /// Asks whether these names differ.
 fn check_names(alloc: Global, names: &[ast::Name]) -> Result<(), LoadError>
-    ensures { Tells DoubleName (repeated names.now) result }
+    ensures { Reports DoubleName (repeated names.now) result }
 {
     let mut seen = IndexSet::new(alloc);
     for name in names {
@@ -34,7 +38,7 @@ fn check_names(alloc: Global, names: &[ast::Name]) -> Result<(), LoadError>
 /// Asks whether the type parameters of a function differ.
 #[tactic(auto, unfolding(crate::specs::Rules::repeated_in))]
 fn check_form(alloc: Global, form: &ast::Form) -> Result<(), LoadError>
-    ensures { Tells DoubleName (repeated_in form.now) result }
+    ensures { Reports DoubleName (repeated_in form.now) result }
 {
     match form {
         ast::Form::Module => Ok(()),
@@ -45,7 +49,7 @@ fn check_form(alloc: Global, form: &ast::Form) -> Result<(), LoadError>
 /// Asks whether the names inside an item differ: those of the type parameters of a function, and those of the items of
 /// a module, and of each module in it.
 fn check_inside(alloc: Global, item: &ast::Item) -> Result<(), LoadError>
-    ensures { Tells DoubleName (member_of item.now).inside result }
+    ensures { Reports DoubleName (member_of item.now).inside result }
 {
     check_form(alloc, &item.form)?;
     let mut seen = IndexSet::new(alloc);
@@ -58,7 +62,7 @@ fn check_inside(alloc: Global, item: &ast::Item) -> Result<(), LoadError>
 
 /// Asks whether the names of the items of each module differ, and those of the type parameters of each function.
 pub fn check(alloc: Global, items: &[ast::Item]) -> Result<(), LoadError>
-    ensures { Tells DoubleName (double_in_items items.now) result }
+    ensures { Reports DoubleName (double_in_items items.now) result }
 {
     let mut seen = IndexSet::new(alloc);
     for item in items {

@@ -3,26 +3,26 @@ ghost use Rattle.std.specs.Prelude.{◌≡◌, ◌++◌, map, IfOk, OnOk};
 ghost use Rattle.mm_load.specs.Seen.{function_seen};
 ghost use Rattle.mm_load.specs.WrittenItem.{defined_by, functions_in, functions_of, path_in};
 
-use mm_lex::Place;
+use mm_lex::Position;
 use mm_parse::ast;
 use mm_terms::{NoMemory, Text};
 use std::alloc::Global;
 
 /// A function of a crate.
-#[derive(Debug, Drop)]
+#[derive(Drop)]
 pub struct Defined<'a> {
-    /// The crate's name, the modules' names and the function's own name, parted by `::`.
+    /// The crate's name, the modules' names and the function's own name, separated by `::`.
     pub path: Text,
-    /// The place of its first token.
-    pub at: Place,
+    /// The position of its first token.
+    pub at: Position,
     pub function: &'a ast::Function,
 }
 
 /// The path of what has a name in the module with a path.
-pub fn path_in(alloc: Global, front: &[u8], name: &[u8]) -> Result<Text, NoMemory>
-    ensures { IfOk result (λ path. path ≡ path_in front.now name.now) }
+pub fn path_in(alloc: Global, prefix: &[u8], name: &[u8]) -> Result<Text, NoMemory>
+    ensures { IfOk result (λ path. path ≡ path_in prefix.now name.now) }
 {
-    let mut path = Vec::from_slice(alloc, front)?;
+    let mut path = Vec::from_slice(alloc, prefix)?;
     path.extend_from_slice(b"::")?;
     path.extend_from_slice(name)?;
     Ok(Text::from_vec(path))
@@ -32,7 +32,7 @@ pub fn path_in(alloc: Global, front: &[u8], name: &[u8]) -> Result<Text, NoMemor
 fn add_function<'a>(
     alloc: Global,
     path: &[u8],
-    at: Place,
+    at: Position,
     form: &'a ast::Form,
     functions: &mut Vec<Defined<'a>>,
 ) -> Result<(), NoMemory>
@@ -49,13 +49,13 @@ fn add_function<'a>(
 /// Adds the functions of an item that stands in the module with a path.
 fn add_functions<'a>(
     alloc: Global,
-    front: &[u8],
+    prefix: &[u8],
     item: &'a ast::Item,
     functions: &mut Vec<Defined<'a>>,
 ) -> Result<(), NoMemory>
-    ensures { OnOk result (map function_seen functions.new.items ≡ map function_seen functions.old.items ++ functions_in item.now front.now) }
+    ensures { OnOk result (map function_seen functions.new.items ≡ map function_seen functions.old.items ++ functions_in item.now prefix.now) }
 {
-    let path = path_in(alloc, front, item.name.text.as_slice())?;
+    let path = path_in(alloc, prefix, item.name.text.as_slice())?;
     add_function(alloc, path.as_slice(), item.at, &item.form, functions)?;
     for inner in item.items.as_slice() {
         add_functions(alloc, path.as_slice(), inner, functions)?;

@@ -5,8 +5,8 @@ ghost use Rattle.mm_lex.specs.LexText.{AreTokensOf};
 ghost use Rattle.mm_lex.specs.declared.token.Token.{Token};
 ghost use Rattle.mm_parse.specs.Grammar as grammar;
 ghost use Rattle.mm_parse.specs.declared.ast.Crate.{Crate};
-ghost use Rattle.mm_collect.specs.WellFormed.{IsWellFormed};
-ghost use Rattle.mm_collect.specs.declared.program.Program.{Program};
+ghost use Rattle.mm_program.specs.WellFormed.{IsWellFormed};
+ghost use Rattle.mm_program.specs.declared.program.Program.{Program};
 ghost use Rattle.mm_load.specs.Meaning.{IsProgram};
 
 /// What a text means is a well-formed program.

@@ -2,15 +2,15 @@
 #![tactic(auto)]
 
 ghost use Rattle.std.specs.Prelude.{◌≡◌, map, IfOk, Err};
-ghost use Rattle.mm_collect.specs.declared.program.Program.{Program};
+ghost use Rattle.mm_program.specs.declared.program.Program.{Program};
 ghost use Rattle.mm_load.specs.Asking.{Judges};
 ghost use Rattle.mm_load.specs.Meaning.{IsProgram};
-ghost use Rattle.mm_load.specs.Names.{leads};
+ghost use Rattle.mm_load.specs.Names.{look_up};
 ghost use Rattle.mm_load.specs.Rules.{IsFirstFault, KeepsRules};
 ghost use Rattle.mm_load.specs.Seen.{function_seen};
 ghost use Rattle.mm_load.specs.WrittenItem.{functions_of, paths_in};
 ghost use Rattle.mm_parse.specs.declared.ast.Crate.{Crate};
-ghost use Rattle.mm_lex.specs.declared.token.Place.{Place};
+ghost use Rattle.mm_lex.specs.declared.token.Position.{Position};
 ghost use Rattle.mm_load.specs.declared.load_error.LoadError.TheVariants as errors;
 ghost use Rattle.mm_load.specs.declared.rule.Rule as rules;
 
@@ -18,10 +18,10 @@ mod bad_main;
 mod bodies;
 mod double_name;
 mod functions;
-mod index;
 pub mod laws;
 mod load_error;
 mod long_type;
+mod name_table;
 mod program;
 mod rule;
 mod types;
@@ -29,22 +29,22 @@ mod unknown_name;
 mod wrong_arity;
 
 use functions::{Defined, functions};
-use index::{Index, path_index};
 pub use load_error::LoadError;
-use mm_collect::Program;
 use mm_parse::ast;
+use mm_program::Program;
+use name_table::{NameTable, path_table};
 use program::load_program;
 pub use rule::Rule;
 use std::alloc::Global;
 
-/// Asks the rules of a tree in their order. The index is that of the paths of its functions.
+/// Asks the rules of a tree in their order. The table is that of the paths of its functions.
 fn check_rules(
     alloc: Global,
     tree: &ast::Crate,
     functions: &[Defined<'_>],
-    paths: &Index<'_>,
+    paths: &NameTable<'_>,
 ) -> Result<(), LoadError>
-    ensures { map function_seen functions.now ≡ functions_of tree.now → leads paths.now ≡ paths_in tree.now → Judges tree.now result }
+    ensures { map function_seen functions.now ≡ functions_of tree.now → look_up paths.now ≡ paths_in tree.now → Judges tree.now result }
 {
     unknown_name::check(alloc, paths, functions)?;
     double_name::check(alloc, tree.items.as_slice())?;
@@ -57,15 +57,15 @@ fn check_rules(
 ///
 /// # Errors
 ///
-/// The first rule that fails, and the first place where it does; and want of memory. That is also the answer where a
-/// written head has children that it does not take, as a tuple of one type, which no text spells, and where a place or
+/// The first rule that fails, and the first position where it does; and out of memory. That is also the answer where a
+/// written head has children that it does not take, as a tuple of one type, which no text spells, and where an index or
 /// a number of type parameters or of parameters is 2^32 or more, which no text within the limit brings about.
 pub fn load(alloc: Global, tree: &ast::Crate) -> Result<Program, LoadError>
     ensures program { IfOk result (IsProgram tree.now) }
-    ensures fault { (rule : rules.Rule) (at : Place) → result ≡ Err (errors.Rule rule at) → IsFirstFault tree.now rule at }
+    ensures fault { (rule : rules.Rule) (at : Position) → result ≡ Err (errors.Rule rule at) → IsFirstFault tree.now rule at }
 {
     let functions = functions(alloc, tree)?;
-    let paths = path_index(alloc, &functions)?;
+    let paths = path_table(alloc, &functions)?;
     check_rules(alloc, tree, &functions, &paths)?;
     Ok(load_program(alloc, &paths, &functions, tree)?)
 }
@@ -77,8 +77,8 @@ pub fn one_program()
 
 /// A tree that keeps the rules has no fault, and a tree has one first fault.
 pub fn one_judgement()
-    ensures kept { (tree : Crate) (rule : rules.Rule) (at : Place) → KeepsRules tree → IsFirstFault tree rule at → ⊥ }
-    ensures one { (tree : Crate) (rule other : rules.Rule) (at there : Place) → IsFirstFault tree rule at → IsFirstFault tree other there → (rule ≡ other) × (at ≡ there) }
+    ensures kept { (tree : Crate) (rule : rules.Rule) (at : Position) → KeepsRules tree → IsFirstFault tree rule at → ⊥ }
+    ensures one { (tree : Crate) (rule other : rules.Rule) (at there : Position) → IsFirstFault tree rule at → IsFirstFault tree other there → (rule ≡ other) × (at ≡ there) }
 {}
 
 #[cfg(test)]

@@ -1,15 +1,15 @@
-ghost use Rattle.mm_load.specs.Asking.{Tells};
-ghost use Rattle.mm_load.specs.Rules.{place_if};
+ghost use Rattle.mm_load.specs.Asking.{Reports};
+ghost use Rattle.mm_load.specs.Rules.{position_if};
 
 use crate::rule;
-use mm_lex::{Place, TextError};
+use mm_lex::{Position, TextError};
 use std::alloc::{AllocError, AllocFailed};
 
 /// Why a tree is not loaded.
-#[derive(Clone, Copy, Debug, PartialEq, Eq)]
+#[derive(Clone, Copy, PartialEq, Eq)]
 pub enum LoadError {
-    /// A rule fails, and this is the first place of the first one that does.
-    Rule(rule::Rule, Place),
+    /// A rule fails, and this is the first position of the first one that does.
+    Rule(rule::Rule, Position),
     NoMemory,
 }
 
@@ -49,9 +49,9 @@ impl From<LoadError> for TextError {
     }
 }
 
-/// Answers that the rule fails at this place, where it does.
-pub fn fault_if(fails: bool, rule: rule::Rule, at: Place) -> Result<(), LoadError>
-    ensures { Tells rule (place_if fails at) result }
+/// Answers that the rule fails at this position, where it does.
+pub fn fault_if(fails: bool, rule: rule::Rule, at: Position) -> Result<(), LoadError>
+    ensures { Reports rule (position_if fails at) result }
 {
     if fails {
         return Err(LoadError::Rule(rule, at));

@@ -1,7 +1,7 @@
 //! Types that are too long.
 ghost use Rattle.std.specs.Option.{option_map_or, SomeIff};
 ghost use Rattle.std.specs.Prelude.{[], ◌≤◌, ◌-◌, map};
-ghost use Rattle.mm_load.specs.Asking.{Tells};
+ghost use Rattle.mm_load.specs.Asking.{Reports};
 ghost use Rattle.mm_load.specs.Rules.{type_length, long_type, long_types, long_in_block, long_in_blocks, long_in_function, long_in_functions};
 ghost use Rattle.mm_load.specs.Seen.{function_seen};
 ghost use Rattle.mm_load.specs.declared.rule.Rule.TheVariants.{LongType};
@@ -27,7 +27,7 @@ fn room_after(ty: &ast::Type, room: u32) -> Option<u32>
 
 #[tactic(auto, unfolding(crate::specs::Rules::long_type))]
 fn check_type(ty: &ast::Type) -> Result<(), LoadError>
-    ensures { Tells LongType (long_type ty.now) result }
+    ensures { Reports LongType (long_type ty.now) result }
 {
     let room = room_after(ty, LONGEST);
     fault_if(room.is_none(), Rule::LongType, ty.at)
@@ -35,7 +35,7 @@ fn check_type(ty: &ast::Type) -> Result<(), LoadError>
 
 #[tactic(auto, unfolding(crate::specs::Rules::long_types), using(crate::proofs::AskingLemmas::fault_more))]
 fn check_types(types: &[ast::Type]) -> Result<(), LoadError>
-    ensures { Tells LongType (long_types types.now) result }
+    ensures { Reports LongType (long_types types.now) result }
 {
     for ty in types {
         check_type(ty)?;
@@ -44,7 +44,7 @@ fn check_types(types: &[ast::Type]) -> Result<(), LoadError>
 }
 
 fn check_result(ty: &Option<ast::Type>) -> Result<(), LoadError>
-    ensures { Tells LongType (option_map_or long_type ty.now []) result }
+    ensures { Reports LongType (option_map_or long_type ty.now []) result }
 {
     match ty {
         Some(ty) => check_type(ty),
@@ -52,21 +52,19 @@ fn check_result(ty: &Option<ast::Type>) -> Result<(), LoadError>
     }
 }
 
-#[tactic(auto, unfolding(crate::specs::Rules::long_in_block))]
+#[tactic(auto, unfolding(crate::specs::Rules::long_in_block), using(crate::proofs::AskingLemmas::no_call))]
 fn check_block(block: &ast::Block) -> Result<(), LoadError>
-    ensures { Tells LongType (long_in_block block.now) result }
+    ensures { Reports LongType (long_in_block block.now) result }
 {
-    match &block.end {
-        ast::End::Return | ast::End::Unreachable | ast::End::Goto(_) | ast::End::Switch(_) => Ok(
-            (),
-        ),
-        ast::End::Call(call) => check_types(call.args.as_slice()),
+    if let ast::End::Call(call) = &block.end {
+        return check_types(call.args.as_slice());
     }
+    Ok(())
 }
 
 #[tactic(auto, unfolding(crate::specs::Rules::long_in_blocks), using(crate::proofs::AskingLemmas::fault_more))]
 fn check_blocks(blocks: &[ast::Block]) -> Result<(), LoadError>
-    ensures { Tells LongType (long_in_blocks blocks.now) result }
+    ensures { Reports LongType (long_in_blocks blocks.now) result }
 {
     for block in blocks {
         check_block(block)?;
@@ -74,9 +72,9 @@ fn check_blocks(blocks: &[ast::Block]) -> Result<(), LoadError>
     Ok(())
 }
 
-#[tactic(auto, unfolding(crate::specs::Rules::long_in_function), using(crate::proofs::AskingLemmas::tells_here, crate::proofs::AskingLemmas::tells_next))]
+#[tactic(auto, unfolding(crate::specs::Rules::long_in_function), using(crate::proofs::AskingLemmas::reports_here, crate::proofs::AskingLemmas::reports_next))]
 fn check_function(function: &ast::Function) -> Result<(), LoadError>
-    ensures { Tells LongType (long_in_function function.now) result }
+    ensures { Reports LongType (long_in_function function.now) result }
 {
     check_types(function.params.as_slice())?;
     check_result(&function.result)?;
@@ -87,7 +85,7 @@ fn check_function(function: &ast::Function) -> Result<(), LoadError>
 /// Asks whether each written type of these functions is short enough.
 #[tactic(auto, unfolding(crate::specs::Rules::long_in_functions), using(crate::proofs::AskingLemmas::fault_seen))]
 pub fn check(functions: &[Defined<'_>]) -> Result<(), LoadError>
-    ensures { Tells LongType (long_in_functions (map function_seen functions.now)) result }
+    ensures { Reports LongType (long_in_functions (map function_seen functions.now)) result }
 {
     for function in functions {
         check_function(function.function)?;

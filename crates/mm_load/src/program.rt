@@ -1,23 +1,27 @@
 //! The program of a tree.
 ghost use Rattle.std.specs.Prelude.{◌≡◌, map, IfOk};
 ghost use Rattle.mm_load.specs.Meaning.{locals_of, function_in, function_of, program_in};
-ghost use Rattle.mm_load.specs.Names.{leads};
+ghost use Rattle.mm_load.specs.Names.{look_up};
 ghost use Rattle.mm_load.specs.Seen.{function_seen};
 
 use crate::bodies::load_blocks;
 use crate::functions::{Defined, path_in};
-use crate::index::{Index, type_param_index};
-use crate::types::{add_types, load_result, place};
-use mm_collect::{Function, Program};
+use crate::name_table::{NameTable, type_param_table};
+use crate::types::{add_types, index_in, load_result};
 use mm_parse::ast;
+use mm_program::{Function, Program};
 use mm_terms::{DefId, NoMemory, Text, Tys};
 use sqlite_items::Items;
 use std::alloc::Global;
 
 /// The types of the locals: the result, the parameters, and the `let` locals.
 #[tactic(auto, unfolding(crate::specs::Meaning::locals_of))]
-fn load_locals(alloc: Global, scope: &Index<'_>, function: &ast::Function) -> Result<Tys, NoMemory>
-    ensures { IfOk result (λ tys. tys ≡ locals_of (leads scope.now) function.now) }
+fn load_locals(
+    alloc: Global,
+    scope: &NameTable<'_>,
+    function: &ast::Function,
+) -> Result<Tys, NoMemory>
+    ensures { IfOk result (λ tys. tys ≡ locals_of (look_up scope.now) function.now) }
 {
     let mut locals = Tys::new(alloc);
     locals.push(load_result(alloc, scope, &function.result)?)?;
@@ -29,11 +33,11 @@ fn load_locals(alloc: Global, scope: &Index<'_>, function: &ast::Function) -> Re
 #[tactic(auto, unfolding(crate::specs::Meaning::function_in))]
 fn load_in_scope(
     alloc: Global,
-    paths: &Index<'_>,
-    scope: &Index<'_>,
+    paths: &NameTable<'_>,
+    scope: &NameTable<'_>,
     defined: &Defined<'_>,
 ) -> Result<Function, NoMemory>
-    ensures { IfOk result (λ f. f ≡ function_in (leads paths.now) (leads scope.now) (function_seen defined.now)) }
+    ensures { IfOk result (λ f. f ≡ function_in (look_up paths.now) (look_up scope.now) (function_seen defined.now)) }
 {
     let function = defined.function;
     let Ok(type_params) = u32::try_from(function.type_params.len()) else {
@@ -54,21 +58,21 @@ fn load_in_scope(
 
 fn load_function(
     alloc: Global,
-    paths: &Index<'_>,
+    paths: &NameTable<'_>,
     defined: &Defined<'_>,
 ) -> Result<Function, NoMemory>
-    ensures { IfOk result (λ f. f ≡ function_of (leads paths.now) (function_seen defined.now)) }
+    ensures { IfOk result (λ f. f ≡ function_of (look_up paths.now) (function_seen defined.now)) }
 {
-    let scope = type_param_index(alloc, defined.function)?;
+    let scope = type_param_table(alloc, defined.function)?;
     load_in_scope(alloc, paths, &scope, defined)
 }
 
 fn load_functions(
     alloc: Global,
-    paths: &Index<'_>,
+    paths: &NameTable<'_>,
     functions: &[Defined<'_>],
 ) -> Result<Items<Function>, NoMemory>
-    ensures { IfOk result (λ fs. fs ≡ map (function_of (leads paths.now)) (map function_seen functions.now)) }
+    ensures { IfOk result (λ fs. fs ≡ map (function_of (look_up paths.now)) (map function_seen functions.now)) }
 {
     let mut loaded = Items::new(alloc);
     for function in functions {
@@ -77,20 +81,20 @@ fn load_functions(
     Ok(loaded)
 }
 
-/// The program of a tree, with each name replaced by the place to which it leads.
+/// The program of a tree, with each name replaced by the index to which it resolves.
 #[tactic(auto, unfolding(crate::specs::Meaning::program_in))]
 pub fn load_program(
     alloc: Global,
-    paths: &Index<'_>,
+    paths: &NameTable<'_>,
     functions: &[Defined<'_>],
     tree: &ast::Crate,
 ) -> Result<Program, NoMemory>
-    ensures { IfOk result (λ p. p ≡ program_in (leads paths.now) (map function_seen functions.now) tree.now) }
+    ensures { IfOk result (λ p. p ≡ program_in (look_up paths.now) (map function_seen functions.now) tree.now) }
 {
     let main = path_in(alloc, tree.name.as_slice(), b"main")?;
     Ok(Program {
         krate: Text::from_slice(alloc, tree.name.as_slice())?,
         functions: load_functions(alloc, paths, functions)?,
-        main: DefId(place(paths, main.as_slice())),
+        main: DefId(index_in(paths, main.as_slice())),
     })
 }

@@ -1,25 +1,25 @@
 //! The types of a program, made of those of its tree.
 ghost use Rattle.std.specs.Prelude.{◌≡◌, ◌++◌, IfOk, OnOk};
-ghost use Rattle.mm_load.specs.Meaning.{place_in, head_in, type_of, types_of, result_of};
-ghost use Rattle.mm_load.specs.Names.{leads};
+ghost use Rattle.mm_load.specs.Meaning.{index_in, head_in, type_of, types_of, result_of};
+ghost use Rattle.mm_load.specs.Names.{look_up};
 
-use crate::index::{Index, find};
+use crate::name_table::{NameTable, find};
 use mm_parse::ast;
 use mm_terms::{NoMemory, Ty, TyHead, Tys};
 use std::alloc::Global;
 
-/// The place to which a name leads, or 0.
-pub fn place(index: &Index<'_>, name: &[u8]) -> u32
-    ensures { result ≡ place_in (leads index.now) name.now }
+/// The index to which a name resolves, or 0.
+pub fn index_in(table: &NameTable<'_>, name: &[u8]) -> u32
+    ensures { result ≡ index_in (look_up table.now) name.now }
 {
-    find(index, name).unwrap_or(0)
+    find(table, name).unwrap_or(0)
 }
 
-fn load_head(scope: &Index<'_>, head: &ast::Head) -> TyHead
-    ensures { result ≡ head_in (leads scope.now) head.now }
+fn load_head(scope: &NameTable<'_>, head: &ast::Head) -> TyHead
+    ensures { result ≡ head_in (look_up scope.now) head.now }
 {
     match head {
-        ast::Head::Param(name) => TyHead::Param(place(scope, name.as_slice())),
+        ast::Head::Param(name) => TyHead::Param(index_in(scope, name.as_slice())),
         ast::Head::U64 => TyHead::U64,
         ast::Head::Bool => TyHead::Bool,
         ast::Head::Tuple => TyHead::Tuple,
@@ -28,9 +28,9 @@ fn load_head(scope: &Index<'_>, head: &ast::Head) -> TyHead
     }
 }
 
-/// The type that is written. A head with children that it does not take is no type, and answers want of memory.
-pub fn load_type(alloc: Global, scope: &Index<'_>, ty: &ast::Type) -> Result<Ty, NoMemory>
-    ensures { IfOk result (λ t. t ≡ type_of (leads scope.now) ty.now) }
+/// The type that is written. A head with children that it does not take is no type, and answers out of memory.
+pub fn load_type(alloc: Global, scope: &NameTable<'_>, ty: &ast::Type) -> Result<Ty, NoMemory>
+    ensures { IfOk result (λ t. t ≡ type_of (look_up scope.now) ty.now) }
 {
     let mut children = Vec::new(alloc);
     for child in ty.children.as_slice() {
@@ -47,11 +47,11 @@ pub fn load_type(alloc: Global, scope: &Index<'_>, ty: &ast::Type) -> Result<Ty,
 #[tactic(auto, unfolding(crate::specs::Meaning::types_of))]
 pub fn add_types(
     alloc: Global,
-    scope: &Index<'_>,
+    scope: &NameTable<'_>,
     types: &[ast::Type],
     tys: &mut Tys,
 ) -> Result<(), NoMemory>
-    ensures { OnOk result (tys.new ≡ tys.old ++ types_of (leads scope.now) types.now) }
+    ensures { OnOk result (tys.new ≡ tys.old ++ types_of (look_up scope.now) types.now) }
 {
     for ty in types {
         tys.push(load_type(alloc, scope, ty)?)?;
@@ -60,8 +60,12 @@ pub fn add_types(
 }
 
 /// The types that are written.
-pub fn load_types(alloc: Global, scope: &Index<'_>, types: &[ast::Type]) -> Result<Tys, NoMemory>
-    ensures { IfOk result (λ tys. tys ≡ types_of (leads scope.now) types.now) }
+pub fn load_types(
+    alloc: Global,
+    scope: &NameTable<'_>,
+    types: &[ast::Type],
+) -> Result<Tys, NoMemory>
+    ensures { IfOk result (λ tys. tys ≡ types_of (look_up scope.now) types.now) }
 {
     let mut tys = Tys::new(alloc);
     add_types(alloc, scope, types, &mut tys)?;
@@ -70,8 +74,12 @@ pub fn load_types(alloc: Global, scope: &Index<'_>, types: &[ast::Type]) -> Resu
 
 /// The type of a result. Where none is written it is `()`.
 #[tactic(auto, unfolding(crate::specs::Meaning::result_of))]
-pub fn load_result(alloc: Global, scope: &Index<'_>, ty: &Option<ast::Type>) -> Result<Ty, NoMemory>
-    ensures { IfOk result (λ t. t ≡ result_of (leads scope.now) ty.now) }
+pub fn load_result(
+    alloc: Global,
+    scope: &NameTable<'_>,
+    ty: &Option<ast::Type>,
+) -> Result<Ty, NoMemory>
+    ensures { IfOk result (λ t. t ≡ result_of (look_up scope.now) ty.now) }
 {
     match ty {
         Some(ty) => load_type(alloc, scope, ty),

@@ -1,33 +1,33 @@
-//! Names that lead nowhere.
+//! Names that resolve to nothing.
 ghost use Rattle.std.specs.Option.{option_map_or};
 ghost use Rattle.std.specs.Prelude.{[], map};
-ghost use Rattle.mm_load.specs.Asking.{Tells};
-ghost use Rattle.mm_load.specs.Names.{leads};
+ghost use Rattle.mm_load.specs.Asking.{Reports};
+ghost use Rattle.mm_load.specs.Names.{look_up};
 ghost use Rattle.mm_load.specs.Rules.{unknown_head, unknown_in_type, unknown_in_types, unknown_local, unknown_label, unknown_in_operand, unknown_in_operands, unknown_in_rvalue, unknown_in_statement, unknown_in_statements, unknown_in_arms, unknown_in_switch, unknown_in_call, unknown_in_end, unknown_in_block, unknown_in_blocks, unknown_in_scope, unknown_in_function, unknown_in_functions};
 ghost use Rattle.mm_load.specs.Seen.{function_seen};
 ghost use Rattle.mm_load.specs.declared.rule.Rule.TheVariants.{UnknownName};
 
 use crate::functions::Defined;
-use crate::index::{Index, find, path_text, type_param_index};
 use crate::load_error::{LoadError, fault_if};
+use crate::name_table::{NameTable, find, path_text, type_param_table};
 use crate::rule::Rule;
-use mm_lex::Place;
+use mm_lex::Position;
 use mm_parse::ast;
 use std::alloc::Global;
 
-fn check_head(scope: &Index<'_>, at: Place, head: &ast::Head) -> Result<(), LoadError>
-    ensures { Tells UnknownName (unknown_head (leads scope.now) at head.now) result }
+fn check_head(scope: &NameTable<'_>, at: Position, head: &ast::Head) -> Result<(), LoadError>
+    ensures { Reports UnknownName (unknown_head (look_up scope.now) at head.now) result }
 {
     let ast::Head::Param(name) = head else {
         return Ok(());
     };
-    let place = find(scope, name.as_slice());
-    fault_if(place.is_none(), Rule::UnknownName, at)
+    let index = find(scope, name.as_slice());
+    fault_if(index.is_none(), Rule::UnknownName, at)
 }
 
-#[tactic(auto, using(crate::proofs::WrittenLemmas::tells_in_type, crate::proofs::AskingLemmas::tells_here, crate::proofs::AskingLemmas::tells_next, crate::proofs::AskingLemmas::fault_more, crate::proofs::AskingLemmas::kept_all))]
-fn check_type(scope: &Index<'_>, ty: &ast::Type) -> Result<(), LoadError>
-    ensures { Tells UnknownName (unknown_in_type (leads scope.now) ty.now) result }
+#[tactic(auto, using(crate::proofs::WrittenLemmas::reports_in_type, crate::proofs::AskingLemmas::reports_here, crate::proofs::AskingLemmas::reports_next, crate::proofs::AskingLemmas::fault_more, crate::proofs::AskingLemmas::kept_all))]
+fn check_type(scope: &NameTable<'_>, ty: &ast::Type) -> Result<(), LoadError>
+    ensures { Reports UnknownName (unknown_in_type (look_up scope.now) ty.now) result }
 {
     check_head(scope, ty.at, &ty.head)?;
     for child in ty.children.as_slice() {
@@ -37,8 +37,8 @@ fn check_type(scope: &Index<'_>, ty: &ast::Type) -> Result<(), LoadError>
 }
 
 #[tactic(auto, unfolding(crate::specs::Rules::unknown_in_types), using(crate::proofs::AskingLemmas::fault_more))]
-fn check_types(scope: &Index<'_>, types: &[ast::Type]) -> Result<(), LoadError>
-    ensures { Tells UnknownName (unknown_in_types (leads scope.now) types.now) result }
+fn check_types(scope: &NameTable<'_>, types: &[ast::Type]) -> Result<(), LoadError>
+    ensures { Reports UnknownName (unknown_in_types (look_up scope.now) types.now) result }
 {
     for ty in types {
         check_type(scope, ty)?;
@@ -46,8 +46,8 @@ fn check_types(scope: &Index<'_>, types: &[ast::Type]) -> Result<(), LoadError>
     Ok(())
 }
 
-fn check_result(scope: &Index<'_>, ty: &Option<ast::Type>) -> Result<(), LoadError>
-    ensures { Tells UnknownName (option_map_or (unknown_in_type (leads scope.now)) ty.now []) result }
+fn check_result(scope: &NameTable<'_>, ty: &Option<ast::Type>) -> Result<(), LoadError>
+    ensures { Reports UnknownName (option_map_or (unknown_in_type (look_up scope.now)) ty.now []) result }
 {
     match ty {
         Some(ty) => check_type(scope, ty),
@@ -57,7 +57,7 @@ fn check_result(scope: &Index<'_>, ty: &Option<ast::Type>) -> Result<(), LoadErr
 
 /// The locals are `_0`, and one for each parameter and each `let`.
 fn check_local(function: &ast::Function, local: ast::Local) -> Result<(), LoadError>
-    ensures { Tells UnknownName (unknown_local function.now local) result }
+    ensures { Reports UnknownName (unknown_local function.now local) result }
 {
     let behind_params = (local.number as usize).saturating_sub(function.params.len());
     fault_if(
@@ -68,7 +68,7 @@ fn check_local(function: &ast::Function, local: ast::Local) -> Result<(), LoadEr
 }
 
 fn check_label(function: &ast::Function, label: ast::Label) -> Result<(), LoadError>
-    ensures { Tells UnknownName (unknown_label function.now label) result }
+    ensures { Reports UnknownName (unknown_label function.now label) result }
 {
     let blocks = function.blocks.len();
     fault_if(label.number as usize >= blocks, Rule::UnknownName, label.at)
@@ -76,7 +76,7 @@ fn check_label(function: &ast::Function, label: ast::Label) -> Result<(), LoadEr
 
 #[tactic(auto, unfolding(crate::specs::Rules::unknown_in_operand))]
 fn check_operand(function: &ast::Function, operand: ast::Operand) -> Result<(), LoadError>
-    ensures { Tells UnknownName (unknown_in_operand function.now operand) result }
+    ensures { Reports UnknownName (unknown_in_operand function.now operand) result }
 {
     match operand {
         ast::Operand::Copy(local) | ast::Operand::Move(local) => check_local(function, local),
@@ -86,7 +86,7 @@ fn check_operand(function: &ast::Function, operand: ast::Operand) -> Result<(), 
 
 #[tactic(auto, unfolding(crate::specs::Rules::unknown_in_operands), using(crate::proofs::AskingLemmas::fault_more))]
 fn check_operands(function: &ast::Function, operands: &[ast::Operand]) -> Result<(), LoadError>
-    ensures { Tells UnknownName (unknown_in_operands function.now operands.now) result }
+    ensures { Reports UnknownName (unknown_in_operands function.now operands.now) result }
 {
     for operand in operands {
         check_operand(function, *operand)?;
@@ -94,9 +94,9 @@ fn check_operands(function: &ast::Function, operands: &[ast::Operand]) -> Result
     Ok(())
 }
 
-#[tactic(auto, unfolding(crate::specs::Rules::unknown_in_rvalue), using(crate::proofs::AskingLemmas::tells_here, crate::proofs::AskingLemmas::tells_next))]
+#[tactic(auto, unfolding(crate::specs::Rules::unknown_in_rvalue), using(crate::proofs::AskingLemmas::reports_here, crate::proofs::AskingLemmas::reports_next))]
 fn check_rvalue(function: &ast::Function, rvalue: &ast::Rvalue) -> Result<(), LoadError>
-    ensures { Tells UnknownName (unknown_in_rvalue function.now rvalue.now) result }
+    ensures { Reports UnknownName (unknown_in_rvalue function.now rvalue.now) result }
 {
     match rvalue {
         ast::Rvalue::Use(operand) | ast::Rvalue::Not(operand) => check_operand(function, *operand),
@@ -108,9 +108,9 @@ fn check_rvalue(function: &ast::Function, rvalue: &ast::Rvalue) -> Result<(), Lo
 }
 
 /// The local that is written, and what is written into it.
-#[tactic(auto, unfolding(crate::specs::Rules::unknown_in_statement), using(crate::proofs::AskingLemmas::tells_here, crate::proofs::AskingLemmas::tells_next))]
+#[tactic(auto, unfolding(crate::specs::Rules::unknown_in_statement), using(crate::proofs::AskingLemmas::reports_here, crate::proofs::AskingLemmas::reports_next))]
 fn check_statement(function: &ast::Function, statement: &ast::Statement) -> Result<(), LoadError>
-    ensures { Tells UnknownName (unknown_in_statement function.now statement.now) result }
+    ensures { Reports UnknownName (unknown_in_statement function.now statement.now) result }
 {
     match statement {
         ast::Statement::Set(local, rvalue) => {
@@ -126,7 +126,7 @@ fn check_statements(
     function: &ast::Function,
     statements: &[ast::Statement],
 ) -> Result<(), LoadError>
-    ensures { Tells UnknownName (unknown_in_statements function.now statements.now) result }
+    ensures { Reports UnknownName (unknown_in_statements function.now statements.now) result }
 {
     for statement in statements {
         check_statement(function, statement)?;
@@ -136,7 +136,7 @@ fn check_statements(
 
 #[tactic(auto, unfolding(crate::specs::Rules::unknown_in_arms), using(crate::proofs::AskingLemmas::fault_more))]
 fn check_arms(function: &ast::Function, arms: &[ast::Arm]) -> Result<(), LoadError>
-    ensures { Tells UnknownName (unknown_in_arms function.now arms.now) result }
+    ensures { Reports UnknownName (unknown_in_arms function.now arms.now) result }
 {
     for arm in arms {
         check_label(function, arm.label)?;
@@ -145,9 +145,9 @@ fn check_arms(function: &ast::Function, arms: &[ast::Arm]) -> Result<(), LoadErr
 }
 
 /// The operand, the labels of the arms, and that of the rest.
-#[tactic(auto, unfolding(crate::specs::Rules::unknown_in_switch), using(crate::proofs::AskingLemmas::tells_here, crate::proofs::AskingLemmas::tells_next))]
+#[tactic(auto, unfolding(crate::specs::Rules::unknown_in_switch), using(crate::proofs::AskingLemmas::reports_here, crate::proofs::AskingLemmas::reports_next))]
 fn check_switch(function: &ast::Function, switch: &ast::Switch) -> Result<(), LoadError>
-    ensures { Tells UnknownName (unknown_in_switch function.now switch.now) result }
+    ensures { Reports UnknownName (unknown_in_switch function.now switch.now) result }
 {
     check_operand(function, switch.operand)?;
     check_arms(function, switch.arms.as_slice())?;
@@ -155,15 +155,15 @@ fn check_switch(function: &ast::Function, switch: &ast::Switch) -> Result<(), Lo
 }
 
 /// Where the result goes, the path, the type arguments, the operands and the label of a call in the function.
-#[tactic(auto, unfolding(crate::specs::Rules::unknown_in_call), using(crate::proofs::AskingLemmas::tells_here, crate::proofs::AskingLemmas::tells_next))]
+#[tactic(auto, unfolding(crate::specs::Rules::unknown_in_call), using(crate::proofs::AskingLemmas::reports_here, crate::proofs::AskingLemmas::reports_next))]
 fn check_call(
     alloc: Global,
-    paths: &Index<'_>,
-    scope: &Index<'_>,
+    paths: &NameTable<'_>,
+    scope: &NameTable<'_>,
     function: &ast::Function,
     call: &ast::Call,
 ) -> Result<(), LoadError>
-    ensures { Tells UnknownName (unknown_in_call (leads paths.now) (leads scope.now) function.now call.now) result }
+    ensures { Reports UnknownName (unknown_in_call (look_up paths.now) (look_up scope.now) function.now call.now) result }
 {
     check_local(function, call.place)?;
     let path = path_text(alloc, &call.callee)?;
@@ -177,12 +177,12 @@ fn check_call(
 #[tactic(auto, unfolding(crate::specs::Rules::unknown_in_end))]
 fn check_end(
     alloc: Global,
-    paths: &Index<'_>,
-    scope: &Index<'_>,
+    paths: &NameTable<'_>,
+    scope: &NameTable<'_>,
     function: &ast::Function,
     end: &ast::End,
 ) -> Result<(), LoadError>
-    ensures { Tells UnknownName (unknown_in_end (leads paths.now) (leads scope.now) function.now end.now) result }
+    ensures { Reports UnknownName (unknown_in_end (look_up paths.now) (look_up scope.now) function.now end.now) result }
 {
     match end {
         ast::End::Return | ast::End::Unreachable => Ok(()),
@@ -192,15 +192,15 @@ fn check_end(
     }
 }
 
-#[tactic(auto, unfolding(crate::specs::Rules::unknown_in_block), using(crate::proofs::AskingLemmas::tells_here, crate::proofs::AskingLemmas::tells_next))]
+#[tactic(auto, unfolding(crate::specs::Rules::unknown_in_block), using(crate::proofs::AskingLemmas::reports_here, crate::proofs::AskingLemmas::reports_next))]
 fn check_block(
     alloc: Global,
-    paths: &Index<'_>,
-    scope: &Index<'_>,
+    paths: &NameTable<'_>,
+    scope: &NameTable<'_>,
     function: &ast::Function,
     block: &ast::Block,
 ) -> Result<(), LoadError>
-    ensures { Tells UnknownName (unknown_in_block (leads paths.now) (leads scope.now) function.now block.now) result }
+    ensures { Reports UnknownName (unknown_in_block (look_up paths.now) (look_up scope.now) function.now block.now) result }
 {
     check_statements(function, block.statements.as_slice())?;
     check_end(alloc, paths, scope, function, &block.end)
@@ -209,11 +209,11 @@ fn check_block(
 #[tactic(auto, unfolding(crate::specs::Rules::unknown_in_blocks), using(crate::proofs::AskingLemmas::fault_more))]
 fn check_blocks(
     alloc: Global,
-    paths: &Index<'_>,
-    scope: &Index<'_>,
+    paths: &NameTable<'_>,
+    scope: &NameTable<'_>,
     function: &ast::Function,
 ) -> Result<(), LoadError>
-    ensures { Tells UnknownName (unknown_in_blocks (leads paths.now) (leads scope.now) function.now function.now.blocks) result }
+    ensures { Reports UnknownName (unknown_in_blocks (look_up paths.now) (look_up scope.now) function.now function.now.blocks) result }
 {
     for block in function.blocks.as_slice() {
         check_block(alloc, paths, scope, function, block)?;
@@ -222,14 +222,14 @@ fn check_blocks(
 }
 
 /// The parameter types, the result type, the types of the `let` locals and the blocks of a function.
-#[tactic(auto, unfolding(crate::specs::Rules::unknown_in_scope), using(crate::proofs::AskingLemmas::tells_here, crate::proofs::AskingLemmas::tells_next))]
+#[tactic(auto, unfolding(crate::specs::Rules::unknown_in_scope), using(crate::proofs::AskingLemmas::reports_here, crate::proofs::AskingLemmas::reports_next))]
 fn check_in_scope(
     alloc: Global,
-    paths: &Index<'_>,
-    scope: &Index<'_>,
+    paths: &NameTable<'_>,
+    scope: &NameTable<'_>,
     function: &ast::Function,
 ) -> Result<(), LoadError>
-    ensures { Tells UnknownName (unknown_in_scope (leads paths.now) (leads scope.now) function.now) result }
+    ensures { Reports UnknownName (unknown_in_scope (look_up paths.now) (look_up scope.now) function.now) result }
 {
     check_types(scope, function.params.as_slice())?;
     check_result(scope, &function.result)?;
@@ -239,19 +239,23 @@ fn check_in_scope(
 
 fn check_function(
     alloc: Global,
-    paths: &Index<'_>,
+    paths: &NameTable<'_>,
     function: &ast::Function,
 ) -> Result<(), LoadError>
-    ensures { Tells UnknownName (unknown_in_function (leads paths.now) function.now) result }
+    ensures { Reports UnknownName (unknown_in_function (look_up paths.now) function.now) result }
 {
-    let scope = type_param_index(alloc, function)?;
+    let scope = type_param_table(alloc, function)?;
     check_in_scope(alloc, paths, &scope, function)
 }
 
-/// Asks whether each name of these functions leads somewhere.
+/// Asks whether each name of these functions resolves.
 #[tactic(auto, unfolding(crate::specs::Rules::unknown_in_functions), using(crate::proofs::AskingLemmas::fault_seen))]
-pub fn check(alloc: Global, paths: &Index<'_>, functions: &[Defined<'_>]) -> Result<(), LoadError>
-    ensures { Tells UnknownName (unknown_in_functions (leads paths.now) (map function_seen functions.now)) result }
+pub fn check(
+    alloc: Global,
+    paths: &NameTable<'_>,
+    functions: &[Defined<'_>],
+) -> Result<(), LoadError>
+    ensures { Reports UnknownName (unknown_in_functions (look_up paths.now) (map function_seen functions.now)) result }
 {
     for function in functions {
         check_function(alloc, paths, function.function)?;

@@ -2,18 +2,18 @@
 use Rattle.std.specs.Prelude.{◌≡◌, ℕ, zero, suc, ◌-◌, Bool, true, false, List, [], ◌∷◌, ◌++◌, map, length, replicate, Result, Ok, Err, nat_eq}
 use Rattle.std.proofs.Common.{◌∙◌, refl, sym, ap}
 use Rattle.std.proofs.lemmas.List.{map-append, length-map}
-use Rattle.mm_collect.specs.declared.program.Arm.{Arm}
-use Rattle.mm_collect.specs.declared.program.Op.{Op}
+use Rattle.mm_program.specs.declared.program.Arm.{Arm}
+use Rattle.mm_program.specs.declared.program.Op.{Op}
 use Rattle.mm_machines.specs.declared.frame.Caller.{Caller}
 use Rattle.mm_machines.specs.declared.frame.Frame.{Frame}
-use Rattle.mm_machines.specs.declared.frame.Window.{Window}
+use Rattle.mm_machines.specs.declared.frame.LocalRange.{LocalRange}
 use Rattle.mm_machines.specs.declared.trap.Trap.{Trap}
 use Rattle.mm_machines.specs.declared.trap.Trap.TheVariants as trap
 use Rattle.mm_machines.specs.declared.value.Address.{Address}
 use Rattle.mm_machines.specs.declared.value.Value.{Value}
 use Rattle.mm_machines.specs.Values.{checked, uninit, is_whole}
-use Rattle.mm_machines.specs.Memory.{Blocks, written, freed}
-use Rattle.mm_machines.specs.Forms.{Shape, State, Turn, Turn.On, Turn.Over, Find, Eval, Act, local, number, boolean, whole_at, copy, move, all_of, negation, binary, or_trap, at_block, set, print, goto, unreachable, switch, locals_for, started, Handed, handed, entered, fitting, call, handed_back, back_to, return}
+use Rattle.mm_machines.specs.Memory.{Allocations, written, freed}
+use Rattle.mm_machines.specs.Forms.{Shape, State, Turn, Turn.On, Turn.Over, Find, Eval, Act, local, number, boolean, whole_at, copy, move, all_of, negation, binary, or_trap, at_block, set, print, goto, unreachable, switch, locals_for, started, EvaluatedCall, evaluated_call, entered, fitting, call, returned_result, back_to, return}
 use Rattle.mm_machines.proofs.Renaming.{Renaming, carry, bind_law, bind_plain, checked_law, renamed, num_law, truth_law, uninit_law, whole_law, number_of_law, choice_of_law, negated_law, applied_law}
 use Rattle.mm_machines.proofs.MemoryLaws.{memory_renamed, with_locals_law, freed_law, read_law, written_law}
 
@@ -21,7 +21,7 @@ module _ (F V G W : Type 0) (r : Renaming F V G W) where
   abbrev value : Value F V → Value G W
   value = renamed F V G W r
 
-  abbrev memory : Blocks F V → Blocks G W
+  abbrev memory : Allocations F V → Allocations G W
   memory = memory_renamed F V G W r
 
   abbrev pub frame_renamed : Frame F → Frame G
@@ -37,25 +37,25 @@ module _ (F V G W : Type 0) (r : Renaming F V G W) where
   turn_renamed (On s) = On (state_renamed s)
   turn_renamed (Over e printed) = Over e printed
 
-  abbrev made_renamed : Value F V × Blocks F V → Value G W × Blocks G W
+  abbrev made_renamed : Value F V × Allocations F V → Value G W × Allocations G W
   made_renamed p = (value p.0, memory p.1)
 
-  abbrev all_renamed : List (Value F V) × Blocks F V → List (Value G W) × Blocks G W
+  abbrev all_renamed : List (Value F V) × Allocations F V → List (Value G W) × Allocations G W
   all_renamed p = (map value p.0, memory p.1)
 
-  abbrev counted_renamed : ℕ × Blocks F V → ℕ × Blocks G W
+  abbrev counted_renamed : ℕ × Allocations F V → ℕ × Allocations G W
   counted_renamed p = (p.0, memory p.1)
 
-  abbrev handed_renamed : Handed F V → Handed G W
+  abbrev handed_renamed : EvaluatedCall F V → EvaluatedCall G W
   handed_renamed h = record { values = map value h.values; dest = h.dest; memory = memory h.memory }
 
   -- the same place is found
   abbrev pub SameFind : Find F V → Find G W → Type 0
-  SameFind find find' = (w : Window) (m : Blocks F V) → find w m ≡ find' w (memory m)
+  SameFind find find' = (w : LocalRange) (m : Allocations F V) → find w m ≡ find' w (memory m)
 
   -- the same value is made
   abbrev pub SameEval : Eval F V → Eval G W → Type 0
-  SameEval e e' = (w : Window) (m : Blocks F V) → carry made_renamed (e w m) ≡ e' w (memory m)
+  SameEval e e' = (w : LocalRange) (m : Allocations F V) → carry made_renamed (e w m) ≡ e' w (memory m)
 
   abbrev pub SameEvals : List (Eval F V) → List (Eval G W) → Type 0
   SameEvals [] [] = Unit {0}
@@ -79,7 +79,7 @@ module _ (F V G W : Type 0) (r : Renaming F V G W) where
   pub boolean_law : (b : Bool) → SameEval (boolean F V b) (boolean G W b)
   boolean_law b w m = ap (λ v. Ok (v, memory m)) (truth_law F V G W r b)
 
-  whole_at_law : (a : Address) (m : Blocks F V) → carry value (whole_at F V a m) ≡ whole_at G W a (memory m)
+  whole_at_law : (a : Address) (m : Allocations F V) → carry value (whole_at F V a m) ≡ whole_at G W a (memory m)
   whole_at_law a m =
       bind_law value value _ _ _ _ (read_law F V G W r a m) (λ v.
       checked_law value (is_whole F V v) trap.Uninit (Ok v) ∙ ap (λ b. checked b trap.Uninit (Ok (value v))) (sym (whole_law F V G W r v)))
@@ -93,7 +93,7 @@ module _ (F V G W : Type 0) (r : Renaming F V G W) where
       bind_law value made_renamed _ _ _ _ (whole_at_law a m) (λ v.
       bind_law memory made_renamed _ _ _ _ (written_law F V G W r a (uninit F V) m ∙ ap (λ u. written G W a u (memory m)) (uninit_law F V G W r)) (λ n. refl)))
 
-  pub all_of_law : (es : List (Eval F V)) (es' : List (Eval G W)) → SameEvals es es' → (w : Window) (m : Blocks F V) → carry all_renamed (all_of F V es w m) ≡ all_of G W es' w (memory m)
+  pub all_of_law : (es : List (Eval F V)) (es' : List (Eval G W)) → SameEvals es es' → (w : LocalRange) (m : Allocations F V) → carry all_renamed (all_of F V es w m) ≡ all_of G W es' w (memory m)
   all_of_law [] [] same w m = refl
   all_of_law (e ∷ es) (e' ∷ es') same w m =
       bind_law made_renamed all_renamed _ _ _ _ (same.0 w m) (λ v. bind_law all_renamed all_renamed _ _ _ _ (all_of_law es es' same.1 w v.1) (λ vs. refl))
@@ -160,7 +160,7 @@ module _ (F V G W : Type 0) (r : Renaming F V G W) where
       map-append value vs (replicate n (uninit F V)) ∙ ap (λ l. map value vs ++ l) (map_replicate n) in
       λ i. uninit_law F V G W r i ∷ rest i
 
-  pub handed_law : (es : List (Eval F V)) (es' : List (Eval G W)) (find : Find F V) (find' : Find G W) → SameEvals es es' → SameFind find find' → (w : Window) (m : Blocks F V) → carry handed_renamed (handed F V es find w m) ≡ handed G W es' find' w (memory m)
+  pub handed_law : (es : List (Eval F V)) (es' : List (Eval G W)) (find : Find F V) (find' : Find G W) → SameEvals es es' → SameFind find find' → (w : LocalRange) (m : Allocations F V) → carry handed_renamed (evaluated_call F V es find w m) ≡ evaluated_call G W es' find' w (memory m)
   handed_law es es' find find' same same_find w m =
       bind_law all_renamed handed_renamed _ _ _ _ (all_of_law es es' same w m) (λ vs. bind_plain handed_renamed _ _ _ _ (same_find w vs.1) (λ a. refl))
 
@@ -168,7 +168,7 @@ module _ (F V G W : Type 0) (r : Renaming F V G W) where
   fitting_law true new s = refl
   fitting_law false new s = refl
 
-  entered_law : (f : F) (locals : List (Value F V)) (label : ℕ) (h : Handed F V) (s : State F V) → state_renamed (entered F V f locals label h s) ≡ entered G W (r.function f) (map value locals) label (handed_renamed h) (state_renamed s)
+  entered_law : (f : F) (locals : List (Value F V)) (label : ℕ) (h : EvaluatedCall F V) (s : State F V) → state_renamed (entered F V f locals label h s) ≡ entered G W (r.function f) (map value locals) label (handed_renamed h) (state_renamed s)
   entered_law f locals label h s =
       let many : length locals ≡ length (map value locals) = sym (length-map locals value) in
       λ i. record {
@@ -187,15 +187,15 @@ module _ (F V G W : Type 0) (r : Renaming F V G W) where
       ∙ ap (λ n. fitting G W fits n (state_renamed s)) (entered_law f (locals_for F V shape h.values) label h s ∙ ap (λ l. entered G W (r.function f) l label (handed_renamed h) (state_renamed s)) (locals_for_law shape h.values))
       ∙ ap (λ n. fitting G W (nat_eq n shape.params) (entered G W (r.function f) (locals_for G W shape (map value h.values)) label (handed_renamed h) (state_renamed s)) (state_renamed s)) (sym (length-map h.values value)))
 
-  handed_back_law : (w : Window) (dest : Address) (m : Blocks F V) → carry memory (handed_back F V w dest m) ≡ handed_back G W w dest (memory m)
-  handed_back_law w dest m =
+  returned_result_law : (w : LocalRange) (dest : Address) (m : Allocations F V) → carry memory (returned_result F V w dest m) ≡ returned_result G W w dest (memory m)
+  returned_result_law w dest m =
       bind_plain memory _ _ _ _ (local_law 0 w m) (λ a.
       bind_law value memory _ _ _ _ (read_law F V G W r a m) (λ v.
       written_law F V G W r dest v (freed F V w.first w.count m) ∙ ap (written G W dest (value v)) (freed_law F V G W r w.first w.count m)))
 
   back_to_law : (cs : List (Caller F)) (s : State F V) → turn_renamed (back_to F V cs s) ≡ back_to G W (map caller_renamed cs) (state_renamed s)
   back_to_law [] s = refl
-  back_to_law (c ∷ cs) s = or_trap_law memory _ _ s _ _ (handed_back_law s.top.locals c.dest s.memory) (λ m. refl)
+  back_to_law (c ∷ cs) s = or_trap_law memory _ _ s _ _ (returned_result_law s.top.locals c.dest s.memory) (λ m. refl)
 
   pub return_law : SameAct (return F V) (return G W)
   return_law s = back_to_law s.below s

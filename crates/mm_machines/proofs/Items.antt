@@ -4,19 +4,20 @@ use Rattle.std.proofs.Common.{◌∙◌, refl, ap}
 use Rattle.mm_terms.specs.declared.item.Item.{Item}
 use Rattle.mm_terms.specs.declared.item.Item.TheVariants.{Fn, Glue, Shim, Static}
 use Rattle.mm_terms.specs.declared.tree.Tree.{Tree}
-use Rattle.mm_collect.specs.declared.program.Function.{Function}
-use Rattle.mm_collect.specs.declared.program.Program.{Program}
+use Rattle.mm_program.specs.declared.program.Function.{Function}
+use Rattle.mm_program.specs.declared.program.Program.{Program}
 use Rattle.mm_objects.specs.declared.objects.Linkage.{Linkage}
 use Rattle.mm_objects.specs.declared.objects.ObjUnit.{ObjUnit}
 use Rattle.mm_objects.specs.Emitted.{IsOf, block_of, def_of, item_symbol}
 use Rattle.mm_objects.specs.Emitted as emitted
-use Rattle.mm_objects.specs.Resolution.{Placed, placed}
-use Rattle.mm_machines.specs.Demand.{body_of, function_of, shape_of, types_of}
-use Rattle.mm_machines.specs.Image.{code_of, def_at, def_shape, target_of}
-use Rattle.mm_machines.proofs.Places.{stands}
+use Rattle.mm_objects.specs.Resolution.{Placed, placed, def_at, target_of, def_blocks}
+use Rattle.mm_program.specs.Uses.{function_of, type_args}
+use Rattle.mm_machines.specs.Demand.{body_of, shape_of}
+use Rattle.mm_machines.specs.Image.{def_shape}
+use Rattle.mm_objects.proofs.Standing.{stands}
 
 module _ (p : Program) where
-  body_code : (symbol : List ℕ) (link : Linkage) (args : List Tree) (o : Option Function) → code_of (Some (emitted.code_of p symbol link args o)) ≡ map (block_of p args) (body_of o)
+  body_code : (symbol : List ℕ) (link : Linkage) (args : List Tree) (o : Option Function) → def_blocks (Some (emitted.code_of p symbol link args o)) ≡ map (block_of p args) (body_of o)
   body_code symbol link args None = refl
   body_code symbol link args (Some f) = refl
 
@@ -24,7 +25,7 @@ module _ (p : Program) where
   body_shape symbol link args None = refl
   body_shape symbol link args (Some f) = refl
 
-  def_code : (link : Linkage) (x : Item) → code_of (Some (def_of p link x)) ≡ map (block_of p (types_of x)) (body_of (function_of p x))
+  def_code : (link : Linkage) (x : Item) → def_blocks (Some (def_of p link x)) ≡ map (block_of p (type_args x)) (body_of (function_of p x))
   def_code link (Fn d args) = body_code (item_symbol p (Fn d args)) link args (slice_get p.functions d.0)
   def_code link (Glue t) = refl
   def_code link (Shim t) = refl
@@ -37,8 +38,8 @@ module _ (p : Program) where
   shape_law link (Static d) = refl
 
 module _ (p : Program) (items : List Item) (us : List ObjUnit) (one : Placed) (x : Item) where
-  pub item_code : Contains (placed us) one → IsOf p items x one.def → code_of (def_at us (target_of one)) ≡ map (block_of p (types_of x)) (body_of (function_of p x))
-  item_code there of = ap code_of (stands us one there) ∙ ap (λ d. code_of (Some d)) of.is ∙ def_code p of.link x
+  pub item_code : Contains (placed us) one → IsOf p items x one.def → def_blocks (def_at us (target_of one)) ≡ map (block_of p (type_args x)) (body_of (function_of p x))
+  item_code there of = ap def_blocks (stands us one there) ∙ ap (λ d. def_blocks (Some d)) of.is ∙ def_code p of.link x
 
   pub item_shape : Contains (placed us) one → IsOf p items x one.def → def_shape (def_at us (target_of one)) ≡ shape_of (function_of p x)
   item_shape there of = ap def_shape (stands us one there) ∙ ap (λ d. def_shape (Some d)) of.is ∙ shape_law p of.link x

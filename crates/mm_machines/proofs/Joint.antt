@@ -6,30 +6,31 @@ use Rattle.std.specs.List.{Contains}
 use Rattle.std.proofs.Common.{◌∙◌, refl, sym, ap, arith}
 use Rattle.std.proofs.lemmas.List.Elements.{Contains-append_left, Contains-append_right}
 use Rattle.mm_terms.specs.declared.item.Item.{Item}
-use Rattle.mm_collect.specs.declared.program.Arm.{Arm}
-use Rattle.mm_collect.specs.declared.program.Call.{Call}
-use Rattle.mm_collect.specs.declared.program.End.{End}
-use Rattle.mm_collect.specs.declared.program.End.TheVariants as end
-use Rattle.mm_collect.specs.declared.program.Op.{Op}
-use Rattle.mm_collect.specs.declared.program.Operand.{Operand}
-use Rattle.mm_collect.specs.declared.program.Operand.TheVariants as operand
-use Rattle.mm_collect.specs.declared.program.Place.{Place}
-use Rattle.mm_collect.specs.declared.program.Program.{Program}
-use Rattle.mm_collect.specs.declared.program.Rvalue.{Rvalue}
-use Rattle.mm_collect.specs.declared.program.Rvalue.TheVariants as rvalue
-use Rattle.mm_collect.specs.declared.program.Statement.{Statement}
-use Rattle.mm_collect.specs.declared.program.Statement.TheVariants as statement
+use Rattle.mm_program.specs.declared.program.Arm.{Arm}
+use Rattle.mm_program.specs.declared.program.Call.{Call}
+use Rattle.mm_program.specs.declared.program.End.{End}
+use Rattle.mm_program.specs.declared.program.End.TheVariants as end
+use Rattle.mm_program.specs.declared.program.Op.{Op}
+use Rattle.mm_program.specs.declared.program.Operand.{Operand}
+use Rattle.mm_program.specs.declared.program.Operand.TheVariants as operand
+use Rattle.mm_program.specs.declared.program.Place.{Place}
+use Rattle.mm_program.specs.declared.program.Program.{Program}
+use Rattle.mm_program.specs.declared.program.Rvalue.{Rvalue}
+use Rattle.mm_program.specs.declared.program.Rvalue.TheVariants as rvalue
+use Rattle.mm_program.specs.declared.program.Statement.{Statement}
+use Rattle.mm_program.specs.declared.program.Statement.TheVariants as statement
 use Rattle.mm_objects.specs.declared.objects.ObjUnit.{ObjUnit}
-use Rattle.mm_machines.specs.declared.target.Target.{Target}
-use Rattle.mm_machines.specs.declared.target.VtableId.{VtableId}
+use Rattle.mm_objects.specs.declared.target.Target.{Target}
+use Rattle.mm_objects.specs.declared.target.VtableId.{VtableId}
 use Rattle.mm_machines.specs.Forms.{Shape, Find, Eval, Act, local, number, boolean, copy, move, negation, binary, set, print, goto, unreachable, switch, call, return}
-use Rattle.mm_machines.specs.Demand.{Table, types_of, function_of, shape_of, callee_in, demand_place, demand_operand, demand_rvalue, demand_statement, demand_end}
-use Rattle.mm_machines.specs.Image.{def_at, def_shape, target_of, find_in, image_place, image_operand, image_rvalue, image_instr, call_found, image_end}
-use Rattle.mm_objects.specs.Resolution.{Placed, placed}
+use Rattle.mm_program.specs.Uses.{type_args, function_of, called}
+use Rattle.mm_machines.specs.Demand.{Table, shape_of, demand_place, demand_operand, demand_rvalue, demand_statement, demand_end}
+use Rattle.mm_machines.specs.Image.{def_shape, image_place, image_operand, image_rvalue, image_instr, call_found, image_end}
+use Rattle.mm_objects.specs.Resolution.{def_at, target_of, find_in, Placed, placed}
 use Rattle.mm_objects.specs.Emitted.{IsOf, Resolves, end_of, instr_of, item_symbol, operand_of, place_of, rvalue_of}
 use Rattle.mm_machines.proofs.Renaming.{Renaming}
 use Rattle.mm_machines.proofs.FormLaws.{SameFind, SameEval, SameEvals, SameAct, state_renamed, local_law, number_law, boolean_law, copy_law, move_law, negation_law, binary_law, set_law, print_law, goto_law, unreachable_law, switch_law, call_law, return_law}
-use Rattle.mm_machines.proofs.Places.{resolved_among}
+use Rattle.mm_objects.proofs.Standing.{resolved_among}
 use Rattle.mm_machines.proofs.Items.{item_shape}
 
 module _ (p : Program) (items : List Item) (us : List ObjUnit) where
@@ -111,7 +112,7 @@ module _ (p : Program) (items : List Item) (us : List ObjUnit) where
   named_in_statement x (statement.Print o) = named_in_operand x o
 
   abbrev pub named_in_call : Item → Call → List Item
-  named_in_call x c = callee_in x c ∷ (named_in_operands x c.operands ++ named_in_place x c.place)
+  named_in_call x c = called (type_args x) c ∷ (named_in_operands x c.operands ++ named_in_place x c.place)
 
   abbrev pub named_in_end : Item → End → List Item
   named_in_end x (end.Switch o arms other) = named_in_operand x o
@@ -263,13 +264,13 @@ module _ (p : Program) (items : List Item) (us : List ObjUnit) where
         on_right = call_law Both BothTables Item Table right q shape js.both ds i.both g label js.on_right i.on_right;
       }
 
-  pub end_joint : (q : Both) (e : End) → Found q (named_in_end q.item e) → JointAct (image_end us (target q) (end_of p (types_of q.item) e)) (demand_end p q.item e)
+  pub end_joint : (q : Both) (e : End) → Found q (named_in_end q.item e) → JointAct (image_end us (target q) (end_of p (type_args q.item) e)) (demand_end p q.item e)
   end_joint q end.Return found = return_joint
   end_joint q end.Unreachable found = unreachable_joint
   end_joint q (end.Goto label) found = goto_joint label
   end_joint q (end.Switch o arms other) found = switch_joint _ _ arms other (operand_joint q o found)
   end_joint q (end.Call c) found =
-      let y = callee_in q.item c in
+      let y = called (type_args q.item) c in
       let on_operands = named_in_operands q.item c.operands in
       let on_place = named_in_place q.item c.place in
       let behind : (z : Item) → Contains (on_operands ++ on_place) z → Contains (y ∷ (on_operands ++ on_place)) z = Contains-append_right (y ∷ []) (on_operands ++ on_place) in

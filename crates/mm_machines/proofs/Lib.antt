@@ -2,7 +2,6 @@ pub mod Renaming
 pub mod MemoryLaws
 pub mod FormLaws
 pub mod RunLaws
-pub mod Places
 pub mod Items
 pub mod Joint
 pub mod Named

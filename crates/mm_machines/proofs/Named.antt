@@ -8,21 +8,21 @@ use Rattle.mm_terms.specs.declared.ids.DefId.{DefId}
 use Rattle.mm_terms.specs.declared.item.Item.{Item}
 use Rattle.mm_terms.specs.declared.item.Item.TheVariants.{Fn, Glue, Shim, Static}
 use Rattle.mm_terms.specs.declared.tree.Tree.{Tree}
-use Rattle.mm_collect.specs.Uses.{candidates_of, body_candidates, end_calls, called}
-use Rattle.mm_collect.specs.declared.program.Block.{Block}
-use Rattle.mm_collect.specs.declared.program.Call.{Call}
-use Rattle.mm_collect.specs.declared.program.End.{End}
-use Rattle.mm_collect.specs.declared.program.End.TheVariants as end
-use Rattle.mm_collect.specs.declared.program.Function.{Function}
-use Rattle.mm_collect.specs.declared.program.Operand.{Operand}
-use Rattle.mm_collect.specs.declared.program.Operand.TheVariants as operand
-use Rattle.mm_collect.specs.declared.program.Program.{Program}
-use Rattle.mm_collect.specs.declared.program.Rvalue.{Rvalue}
-use Rattle.mm_collect.specs.declared.program.Rvalue.TheVariants as rvalue
-use Rattle.mm_collect.specs.declared.program.Statement.{Statement}
-use Rattle.mm_collect.specs.declared.program.Statement.TheVariants as statement
+use Rattle.mm_program.specs.Uses.{candidates_of, body_candidates, end_calls, called, function_of, type_args}
+use Rattle.mm_program.specs.declared.program.Block.{Block}
+use Rattle.mm_program.specs.declared.program.Call.{Call}
+use Rattle.mm_program.specs.declared.program.End.{End}
+use Rattle.mm_program.specs.declared.program.End.TheVariants as end
+use Rattle.mm_program.specs.declared.program.Function.{Function}
+use Rattle.mm_program.specs.declared.program.Operand.{Operand}
+use Rattle.mm_program.specs.declared.program.Operand.TheVariants as operand
+use Rattle.mm_program.specs.declared.program.Program.{Program}
+use Rattle.mm_program.specs.declared.program.Rvalue.{Rvalue}
+use Rattle.mm_program.specs.declared.program.Rvalue.TheVariants as rvalue
+use Rattle.mm_program.specs.declared.program.Statement.{Statement}
+use Rattle.mm_program.specs.declared.program.Statement.TheVariants as statement
 use Rattle.mm_objects.specs.declared.objects.ObjUnit.{ObjUnit}
-use Rattle.mm_machines.specs.Demand.{function_of, body_of, callee_in}
+use Rattle.mm_machines.specs.Demand.{body_of}
 use Rattle.mm_machines.proofs.Joint.{named_in_operand, named_in_operands, named_in_rvalue, named_in_statement, named_in_call, named_in_end}
 
 none_holds : {X : Type 0} (y : X) → Contains [] y → ⊥
@@ -48,13 +48,13 @@ module _ (p : Program) (items : List Item) (us : List ObjUnit) (x : Item) where
   none_in_statement (statement.Set place r) = none_in_rvalue r
   none_in_statement (statement.Print o) = none_in_operand o
 
-  one_in_call : (c : Call) → named_in_call p items us x c ≡ callee_in x c ∷ []
-  one_in_call c = λ i. callee_in x c ∷ (none_in_operands c.operands i ++ [])
+  one_in_call : (c : Call) → named_in_call p items us x c ≡ called (type_args x) c ∷ []
+  one_in_call c = λ i. called (type_args x) c ∷ (none_in_operands c.operands i ++ [])
 
-  -- what an end names is what its call leads to
-  names_call : (e : End) (y : Item) → Contains (named_in_end p items us x e) y → (c : Call) × (e ≡ end.Call c) × (y ≡ callee_in x c)
+  -- what an end names is what its call resolves to
+  names_call : (e : End) (y : Item) → Contains (named_in_end p items us x e) y → (c : Call) × (e ≡ end.Call c) × (y ≡ called (type_args x) c)
   names_call (end.Switch o arms other) y has = absurd (none_holds y (subst (λ ys. Contains ys y) (none_in_operand o) has))
-  names_call (end.Call c) y has = (c, refl, only y (callee_in x c) (subst (λ ys. Contains ys y) (one_in_call c) has))
+  names_call (end.Call c) y has = (c, refl, only y (called (type_args x) c) (subst (λ ys. Contains ys y) (one_in_call c) has))
     where
       only : (y z : Item) → Contains (z ∷ []) y → y ≡ z
       only y z (zero, lt, e) = sym e
@@ -73,11 +73,11 @@ called_among args (z ∷ zs) (suc k) b c at is =
     subst (λ ys. Contains ys (called args c)) (sym (map-append (called args) (end_calls z.end) (flat_map (λ block. end_calls block.end) zs)))
     (Contains-append_right (map (called args) (end_calls z.end)) (map (called args) (flat_map (λ block. end_calls block.end) zs)) (called args c) (called_among args zs k b c at is))
 
-in_body : (d : DefId) (args : List Tree) (o : Option Function) (k : ℕ) (b : Block) (c : Call) → slice_get (body_of o) k ≡ Some b → b.end ≡ end.Call c → Contains (body_candidates args o) (callee_in (Fn d args) c)
+in_body : (d : DefId) (args : List Tree) (o : Option Function) (k : ℕ) (b : Block) (c : Call) → slice_get (body_of o) k ≡ Some b → b.end ≡ end.Call c → Contains (body_candidates args o) (called (type_args (Fn d args)) c)
 in_body d args None k b c at is = absurd (cc at)
 in_body d args (Some f) k b c at is = called_among args f.blocks k b c at is
 
-call_is_candidate : (p : Program) (x : Item) (k : ℕ) (b : Block) (c : Call) → slice_get (body_of (function_of p x)) k ≡ Some b → b.end ≡ end.Call c → Contains (candidates_of p x) (callee_in x c)
+call_is_candidate : (p : Program) (x : Item) (k : ℕ) (b : Block) (c : Call) → slice_get (body_of (function_of p x)) k ≡ Some b → b.end ≡ end.Call c → Contains (candidates_of p x) (called (type_args x) c)
 call_is_candidate p (Fn d args) k b c at is = in_body d args (slice_get p.functions d.0) k b c at is
 call_is_candidate p (Glue t) k b c at is = absurd (cc at)
 call_is_candidate p (Shim t) k b c at is = absurd (cc at)

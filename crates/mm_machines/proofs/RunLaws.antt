@@ -1,9 +1,9 @@
--- Runs with other names: where what stands at each place does the same, the same is seen.
+-- Runs with other names: where the code at each index does the same, the same is seen.
 use Rattle.std.specs.Prelude.{◌≡◌, ℕ, zero, suc, [], replicate}
 use Rattle.std.proofs.Common.{◌∙◌, refl, ap}
 use Rattle.mm_machines.specs.declared.trap.Obs.{Obs}
 use Rattle.mm_machines.specs.Values.{uninit}
-use Rattle.mm_machines.specs.Memory.{no_blocks, with_locals}
+use Rattle.mm_machines.specs.Memory.{no_allocations, with_locals}
 use Rattle.mm_machines.specs.Forms.{Shape, State, Turn, Turn.On, Turn.Over, started}
 use Rattle.mm_machines.specs.Runs.{Code, step, after, run, first, observed}
 use Rattle.mm_machines.proofs.Renaming.{Renaming}
@@ -24,8 +24,8 @@ module _ (F V G W : Type 0) (r : Renaming F V G W) where
 
   same_first : (f : F) (shape : Shape) → state_renamed F V G W r (first F V f shape) ≡ first G W (r.function f) shape
   same_first f shape =
-      ap (λ m. record { top = started G W (r.function f) shape.locals (no_blocks G W); below = []; memory = m; printed = [] })
-      (with_locals_law F V G W r (replicate shape.locals (uninit F V)) (no_blocks F V) ∙ ap (λ l. with_locals G W l (no_blocks G W)) (unset_law F V G W r shape.locals))
+      ap (λ m. record { top = started G W (r.function f) shape.locals (no_allocations G W); below = []; memory = m; printed = [] })
+      (with_locals_law F V G W r (replicate shape.locals (uninit F V)) (no_allocations F V) ∙ ap (λ l. with_locals G W l (no_allocations G W)) (unset_law F V G W r shape.locals))
 
   pub same_observed : (c : Code F V) (d : Code G W) → SameCode c d → (f : F) (shape : Shape) (n : ℕ) → observed F V c f shape n ≡ observed G W d (r.function f) shape n
   same_observed c d same f shape n = same_run c d same n (first F V f shape) ∙ ap (run G W d n) (same_first f shape)

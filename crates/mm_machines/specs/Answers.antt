@@ -5,11 +5,11 @@ use Rattle.mm_machines.specs.declared.memory.Memory.{Memory}
 use Rattle.mm_machines.specs.declared.trap.Halt.{Halt}
 use Rattle.mm_machines.specs.declared.trap.Halt.TheVariants as halt
 use Rattle.mm_machines.specs.declared.trap.Trap.{Trap}
-use Rattle.mm_machines.specs.Memory.{Blocks}
+use Rattle.mm_machines.specs.Memory.{Allocations}
 
--- the blocks of a memory
-abbrev pub blocks_of : (F V : Type 0) → Memory F V → Blocks F V
-blocks_of F V m = record { found = λ n. get nat_eq m.blocks n; next = m.next }
+-- the allocations of a memory
+abbrev pub allocations_of : (F V : Type 0) → Memory F V → Allocations F V
+allocations_of F V m = record { found = λ n. get nat_eq m.allocations n; next = m.next }
 
 -- the answer is that of the definition, or memory ran out
 abbrev pub Answers : {A : Type 0} → Result A Halt → Result A Trap → Type 0

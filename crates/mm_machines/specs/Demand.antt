@@ -2,22 +2,22 @@
 -- each call instantiates its callee there and then. It knows nothing of sets of items, of units and of symbols.
 use Rattle.std.specs.Prelude.{ℕ, List, [], map, length, Option, None, Some, slice_get}
 use Rattle.mm_terms.specs.declared.item.Item.{Item}
-use Rattle.mm_terms.specs.declared.item.Item.TheVariants.{Fn}
 use Rattle.mm_terms.specs.declared.tree.Tree.{Tree}
-use Rattle.mm_terms.specs.Substitution.{subst_all}
-use Rattle.mm_collect.specs.declared.program.Block.{Block}
-use Rattle.mm_collect.specs.declared.program.Call.{Call}
-use Rattle.mm_collect.specs.declared.program.End.{End}
-use Rattle.mm_collect.specs.declared.program.End.TheVariants as end
-use Rattle.mm_collect.specs.declared.program.Function.{Function}
-use Rattle.mm_collect.specs.declared.program.Operand.{Operand}
-use Rattle.mm_collect.specs.declared.program.Operand.TheVariants as operand
-use Rattle.mm_collect.specs.declared.program.Place.{Place}
-use Rattle.mm_collect.specs.declared.program.Program.{Program}
-use Rattle.mm_collect.specs.declared.program.Rvalue.{Rvalue}
-use Rattle.mm_collect.specs.declared.program.Rvalue.TheVariants as rvalue
-use Rattle.mm_collect.specs.declared.program.Statement.{Statement}
-use Rattle.mm_collect.specs.declared.program.Statement.TheVariants as statement
+use Rattle.mm_program.specs.declared.program.Block.{Block}
+use Rattle.mm_program.specs.declared.program.Call.{Call}
+use Rattle.mm_program.specs.declared.program.End.{End}
+use Rattle.mm_program.specs.declared.program.End.TheVariants as end
+use Rattle.mm_program.specs.declared.program.Function.{Function}
+use Rattle.mm_program.specs.declared.program.Operand.{Operand}
+use Rattle.mm_program.specs.declared.program.Operand.TheVariants as operand
+use Rattle.mm_program.specs.declared.program.Place.{Place}
+use Rattle.mm_program.specs.declared.program.Program.{Program}
+use Rattle.mm_program.specs.declared.program.Rvalue.{Rvalue}
+use Rattle.mm_program.specs.declared.program.Rvalue.TheVariants as rvalue
+use Rattle.mm_program.specs.declared.program.Statement.{Statement}
+use Rattle.mm_program.specs.declared.program.Statement.TheVariants as statement
+use Rattle.mm_program.specs.Roots.{main_item}
+use Rattle.mm_program.specs.Uses.{called, function_of, type_args}
 use Rattle.mm_machines.specs.declared.trap.Obs.{Obs}
 use Rattle.mm_machines.specs.Forms.{Shape, Find, Eval, Act, local, number, boolean, copy, move, negation, binary, set, print, goto, unreachable, switch, call, return}
 use Rattle.mm_machines.specs.Runs.{Code, placed_at, or_nowhere, observed}
@@ -28,16 +28,6 @@ Table = Tree × Tree
 
 -- ---- items
 
--- the types at which an item is an instance of a function
-abbrev pub types_of : Item → List Tree
-types_of (Fn d args) = args
-types_of _ = []
-
--- the function that an item is an instance of
-abbrev pub function_of : Program → Item → Option Function
-function_of p (Fn d args) = slice_get p.functions d.0
-function_of p _ = None
-
 -- the body of a function. One that is not there has no block
 abbrev pub body_of : Option Function → List Block
 body_of None = []
@@ -47,10 +37,6 @@ body_of (Some f) = f.blocks
 abbrev pub shape_of : Option Function → Shape
 shape_of None = record { params = 0; locals = 1 }
 shape_of (Some f) = record { params = f.params; locals = length f.locals }
-
--- what is called in an item: the callee at the types of the call, with those of the item put in
-abbrev pub callee_in : Item → Call → Item
-callee_in x c = Fn c.callee (subst_all (types_of x) c.args)
 
 -- ---- what each form of a body does in an item
 
@@ -74,7 +60,7 @@ demand_statement x (statement.Print o) = print Item Table (demand_operand x o)
 
 abbrev pub demand_call : Program → Item → Call → Act Item Table
 demand_call p x c =
-    call Item Table (callee_in x c) (shape_of (function_of p (callee_in x c))) (map (demand_operand x) c.operands) (demand_place x c.place) c.target
+    call Item Table (called (type_args x) c) (shape_of (function_of p (called (type_args x) c))) (map (demand_operand x) c.operands) (demand_place x c.place) c.target
 
 abbrev pub demand_end : Program → Item → End → Act Item Table
 demand_end p x end.Return = return Item Table
@@ -89,10 +75,6 @@ demand_block p x index b = placed_at Item Table (demand_statement x) (demand_end
 -- the machine: what stands at each place of each item's body
 abbrev pub demand : Program → Code Item Table
 demand p x block index = or_nowhere Item Table (demand_block p x index) (slice_get (body_of (function_of p x)) block)
-
--- the item that a run begins with: `main` at no types
-abbrev pub main_item : Program → Item
-main_item p = Fn p.main []
 
 -- what is seen of the program after n steps
 abbrev pub observed_demand : Program → ℕ → Obs

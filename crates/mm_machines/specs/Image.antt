@@ -1,7 +1,6 @@
 -- The image machine: what objects do. A function is a definition of a unit, and each call looks up a symbol in the unit
 -- of the one that calls. It knows nothing of types and items.
 use Rattle.std.specs.Prelude.{ℕ, List, [], map, Option, None, Some, slice_get}
-use Rattle.std.specs.Option.{option_map}
 use Rattle.mm_objects.specs.declared.objects.ObjBlock.{ObjBlock}
 use Rattle.mm_objects.specs.declared.objects.ObjBase.{ObjBase}
 use Rattle.mm_objects.specs.declared.objects.ObjBase.TheVariants.{Local}
@@ -19,9 +18,9 @@ use Rattle.mm_objects.specs.declared.objects.ObjPlace.{ObjPlace}
 use Rattle.mm_objects.specs.declared.objects.ObjRvalue.{ObjRvalue}
 use Rattle.mm_objects.specs.declared.objects.ObjRvalue.TheVariants as rvalue
 use Rattle.mm_objects.specs.declared.objects.ObjUnit.{ObjUnit}
-use Rattle.mm_objects.specs.Resolution.{Placed, resolve}
-use Rattle.mm_machines.specs.declared.target.Target.{Target}
-use Rattle.mm_machines.specs.declared.target.VtableId.{VtableId}
+use Rattle.mm_objects.specs.Resolution.{def_at, def_blocks, find_in}
+use Rattle.mm_objects.specs.declared.target.Target.{Target}
+use Rattle.mm_objects.specs.declared.target.VtableId.{VtableId}
 use Rattle.mm_machines.specs.declared.trap.Obs.{Obs}
 use Rattle.mm_machines.specs.declared.trap.Trap.TheVariants as trap
 use Rattle.mm_machines.specs.Forms.{Shape, Find, Eval, Act, local, number, boolean, copy, move, negation, binary, set, print, goto, unreachable, trapped, switch, call, return}
@@ -29,31 +28,10 @@ use Rattle.mm_machines.specs.Runs.{Code, placed_at, or_nowhere, observed}
 
 -- ---- definitions
 
--- the definition at a place
-abbrev pub def_in : ℕ → Option ObjUnit → Option ObjDef
-def_in n None = None
-def_in n (Some u) = slice_get u.defs n
-
-abbrev pub def_at : List ObjUnit → Target → Option ObjDef
-def_at us t = def_in t.def (slice_get us t.unit)
-
--- the blocks of a definition. One that is not there has none
-abbrev pub code_of : Option ObjDef → List ObjBlock
-code_of None = []
-code_of (Some (Compiled symbol link params locals blocks)) = blocks
-
 -- its parameters and locals. One that is not there has the local of the result alone
 abbrev pub def_shape : Option ObjDef → Shape
 def_shape None = record { params = 0; locals = 1 }
 def_shape (Some (Compiled symbol link params locals blocks)) = record { params = params; locals = locals }
-
--- where a definition is placed
-abbrev pub target_of : Placed → Target
-target_of one = record { unit = one.unit; def = one.number }
-
--- what a reference to a symbol in a unit names
-abbrev pub find_in : List ObjUnit → ℕ → List ℕ → Option Target
-find_in us unit symbol = option_map target_of (resolve us unit symbol)
 
 -- ---- what each form of a definition does
 
@@ -98,7 +76,7 @@ image_block us t index b = placed_at Target VtableId (image_instr t) (image_end 
 
 -- the machine: what stands at each place of each definition
 abbrev pub image : List ObjUnit → Code Target VtableId
-image us t block index = or_nowhere Target VtableId (image_block us t index) (slice_get (code_of (def_at us t)) block)
+image us t block index = or_nowhere Target VtableId (image_block us t index) (slice_get (def_blocks (def_at us t)) block)
 
 -- what is seen of the units after n steps, where the run begins with a definition
 abbrev pub observed_image : List ObjUnit → Target → ℕ → Obs

@@ -3,7 +3,7 @@ use Rattle.std.specs.Prelude.{ℕ, zero, suc, [], replicate, Option, None, Some}
 use Rattle.mm_machines.specs.declared.trap.Ended.TheVariants as ended
 use Rattle.mm_machines.specs.declared.trap.Obs.{Obs}
 use Rattle.mm_machines.specs.Values.{uninit}
-use Rattle.mm_machines.specs.Memory.{no_blocks, with_locals}
+use Rattle.mm_machines.specs.Memory.{no_allocations, with_locals}
 use Rattle.mm_machines.specs.Forms.{Shape, State, Turn, Turn.On, Turn.Over, Act, unreachable, started}
 
 module _ (F V : Type 0) where
@@ -37,9 +37,9 @@ module _ (F V : Type 0) where
   -- before the first step: a function in which no local has a value
   abbrev pub first : F → Shape → State F V
   first main shape = record {
-    top = started F V main shape.locals (no_blocks F V);
+    top = started F V main shape.locals (no_allocations F V);
     below = [];
-    memory = with_locals F V (replicate shape.locals (uninit F V)) (no_blocks F V);
+    memory = with_locals F V (replicate shape.locals (uninit F V)) (no_allocations F V);
     printed = [];
   }
 

@@ -2,8 +2,8 @@
 use Rattle.std.specs.Prelude.{ℕ, ◌+◌, ◌-◌, ◌*◌, ◌/◌, ◌%◌, ◌^◌, max, Bool, true, false, cond, not, ◌&&◌, List, [], ◌∷◌, sum, Result, Ok, Err, Option, None, Some, nat_eq, nat_lt, nat_le, slice_get, slice_set}
 use Rattle.std.specs.List.{list_all}
 use Rattle.std.proofs.Math.Bool.{beq}
-use Rattle.mm_collect.specs.declared.program.Op.{Op}
-use Rattle.mm_collect.specs.declared.program.Op.TheVariants.{Add, Sub, Mul, Div, Rem, Eq, Lt}
+use Rattle.mm_program.specs.declared.program.Op.{Op}
+use Rattle.mm_program.specs.declared.program.Op.TheVariants.{Add, Sub, Mul, Div, Rem, Eq, Lt}
 use Rattle.mm_machines.specs.declared.trap.Trap.{Trap}
 use Rattle.mm_machines.specs.declared.trap.Trap.TheVariants as trap
 use Rattle.mm_machines.specs.declared.value.Part.{Part}
@@ -140,11 +140,11 @@ module _ (F V : Type 0) where
   depth_layer (Var k depths) = 1 + greatest depths
   depth_layer _ = 1
 
-  -- how many cells there are on the longest way from the root
+  -- how many cells there are on the longest path from the root
   abbrev pub depth_of : Value F V → ℕ
   depth_of = fold-Value F V ℕ depth_layer
 
-  -- whether a block can hold it
+  -- whether an allocation can hold it
   abbrev pub fits : Value F V → Bool
   fits v = nat_le (cells_of v) 65536 && nat_le (depth_of v) 512
 
@@ -171,17 +171,17 @@ module _ (F V : Type 0) where
   with_part_layer k w (Var j parts) = roll-Value F V (Var j (slice_set parts k w))
   with_part_layer k w other = roll-Value F V other
 
-  -- the value with another in place of what the step leads to
+  -- the value with another instead of what the step resolves to
   abbrev pub with_part : Part → Value F V → Value F V → Value F V
   with_part (Field k) w v = with_part_layer k w (out-Value F V v)
   with_part (Variant k) w v = w
 
-  -- what a way leads to
+  -- what a path resolves to
   abbrev pub walk : List Part → Value F V → Result (Value F V) Trap
   walk [] v = Ok v
   walk (part ∷ path) v = then_do (stepped part v) (walk path)
 
-  -- the value with another in place of what the way leads to
+  -- the value with another instead of what the path resolves to
   abbrev pub replaced : Value F V → List Part → Value F V → Result (Value F V) Trap
   replaced w [] v = Ok w
   replaced w (part ∷ path) v = then_do (stepped part v) (λ old. then_do (replaced w path old) (λ new. Ok (with_part part new v)))

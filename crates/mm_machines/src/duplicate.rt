@@ -1,6 +1,6 @@
 ghost use Rattle.std.specs.Prelude.{◌≡◌, IfOk};
 
-use crate::target::{Target, VtableId};
+use mm_objects::{Target, VtableId};
 use mm_terms::NoMemory;
 use std::alloc::Global;
 

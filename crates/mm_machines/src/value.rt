@@ -7,13 +7,13 @@ use sqlite_items::Items;
 use std::alloc::Global;
 
 /// A value, as a tree of cells. `F` is what names a function, and `V` what names a table of methods.
-#[derive(Debug, Drop)]
+#[derive(Drop)]
 pub enum Value<F, V> {
     Num(u64),
     Truth(bool),
     /// The parts of a tuple, struct or closure.
     Agg(Values<F, V>),
-    /// The fields of an enum's variant, which has this place among the variants.
+    /// The fields of an enum's variant, which has this index among the variants.
     Var(u32, Values<F, V>),
     Ptr(Address),
     /// A pointer to a value of a type that is not known, with its methods.
@@ -26,31 +26,31 @@ pub enum Value<F, V> {
 /// A list of values.
 pub type Values<F, V> = Items<Value<F, V>>;
 
-/// A place in memory.
-#[derive(Debug, Drop)]
+/// An address in memory.
+#[derive(Drop)]
 pub struct Address {
-    /// The number of the block.
+    /// The number of the allocation.
     pub block: u64,
-    /// The way to a part of the block's value.
+    /// The path to a part of its value.
     pub path: Route,
 }
 
-/// A way into a value, from its root.
+/// A path into a value, from its root.
 pub type Route = Items<Part>;
 
 /// A step into a value.
-#[derive(Clone, Copy, Debug, PartialEq, Eq, Hash)]
+#[derive(Clone, Copy)]
 pub enum Part {
-    /// To the part with this place.
+    /// To the part with this index.
     Field(u32),
     /// To the value itself, which is to be of this variant.
     Variant(u32),
 }
 
-/// The levels to which the value of a block may be nested.
+/// The levels to which the value of an allocation may be nested.
 const LEVELS: u64 = 512;
 
-/// The number of cells that the value of a block may have.
+/// The number of cells that the value of an allocation may have.
 const CELLS: u64 = 65_536;
 
 impl Address {
@@ -143,7 +143,7 @@ impl<F, V> Value<F, V> {
         }
     }
 
-    /// Whether a block can hold it: it has at most 65,536 cells and is nested to at most 512 levels, which are this
+    /// Whether an allocation can hold it: it has at most 65,536 cells and is nested to at most 512 levels, which are this
     /// project's own numbers.
     pub fn fits(&self) -> bool
         ensures { result ≡ fits F V self.now }

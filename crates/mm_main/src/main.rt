@@ -11,7 +11,7 @@ use std::{env, io};
 /// The words were not given by the system.
 const NO_WORDS: u8 = 24;
 
-/// Memory was wanting.
+/// Out of memory.
 const NO_MEMORY: u8 = 22;
 
 fn views(alloc: Global, words: &[String]) -> Result<Vec<&str>, AllocError> {

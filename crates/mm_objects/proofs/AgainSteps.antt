@@ -1,4 +1,4 @@
--- The lines of objects are read, and each front of lines that is read can be gone on with.
+-- The lines of objects are read, and each prefix of lines that is read can be gone on with.
 use Rattle.std.proofs.Common.{◌≡◌, ℕ, ◌<◌, ◌^◌, ◌+◌, Bool, true, false, eqb, List, [], ◌∷◌, ◌++◌, length, map, codes, All, Option, Some, None, refl, ap, sym, ◌∙◌, arith, append_assoc, append-nil, length-append, flat_map}
 use Rattle.std.specs.List.{enumerate_from}
 use Rattle.std.proofs.lemmas.Bool.{eqb-true, false_from_ne_true}

@@ -54,19 +54,19 @@ all-has_no : (ls : List Word) → All IsWithinLine ls → All (HasNo 10) ls
 all-has_no [] all = All-nil (HasNo 10)
 all-has_no (l ∷ ls) all = All-cons (HasNo 10) l ls (has_no l (All-head IsWithinLine l ls all)) (all-has_no ls (All-tail IsWithinLine l ls all))
 
-all-front : {A : Type 0} (P : A → Type 0) (xs ys : List A) → All P (xs ++ ys) → All P xs
-all-front P [] ys all = All-nil P
-all-front P (x ∷ xs) ys all = All-cons P x xs (All-head P x (xs ++ ys) all) (all-front P xs ys (All-tail P x (xs ++ ys) all))
+all-prefix : {A : Type 0} (P : A → Type 0) (xs ys : List A) → All P (xs ++ ys) → All P xs
+all-prefix P [] ys all = All-nil P
+all-prefix P (x ∷ xs) ys all = All-cons P x xs (All-head P x (xs ++ ys) all) (all-prefix P xs ys (All-tail P x (xs ++ ys) all))
 
 -- a list that is not empty has a last element
 pub record HasLast (parts : List Word) : Type 0 where
-  pub front : List Word
+  pub prefix : List Word
   pub last : Word
-  pub is : parts ≡ front ++ last ∷ []
+  pub is : parts ≡ prefix ++ last ∷ []
 
 has-last : (p : Word) (ps : List Word) → HasLast (p ∷ ps)
-has-last p [] = record { front = []; last = p; is = refl }
-has-last p (q ∷ qs) = let h = has-last q qs in record { front = p ∷ h.front; last = h.last; is = ap (λ l. p ∷ l) h.is }
+has-last p [] = record { prefix = []; last = p; is = refl }
+has-last p (q ∷ qs) = let h = has-last q qs in record { prefix = p ∷ h.prefix; last = h.last; is = ap (λ l. p ∷ l) h.is }
 
 pub last-of : (parts : List Word) → parts ≢ [] → HasLast parts
 last-of [] some = absurd (some refl)
@@ -101,7 +101,7 @@ can-begin lines p reads =
       text = record {
         text = record {
           are = f.are.are;
-          is = ap (λ front. front ++ written f.rest) (sym (written-cut lines)) ∙ sym (flat_map-append line_text (map words_in lines) f.rest) ∙ ap written (sym f.is);
+          is = ap (λ prefix. prefix ++ written f.rest) (sym (written-cut lines)) ∙ sym (flat_map-append line_text (map words_in lines) f.rest) ∙ ap written (sym f.is);
         };
         one_unit = f.are.one_unit refl;
       };
@@ -113,27 +113,27 @@ begins-read lines unbroken begins =
     let o = begins.objects in
     let are = begins.text.text.are in
     let h = last-of (cut_at 10 begins.behind) (cut-some 10 begins.behind) in
-    let parts : (lines ++ h.front) ++ h.last ∷ [] ≡ map (join_with_byte 32) (lines_of o) ++ [] ∷ [] =
-    append_assoc lines h.front (h.last ∷ []) ∙ ap (λ l. lines ++ l) (sym h.is) ∙ sym (cut-ended lines begins.behind unbroken) ∙ ap (cut_at 10) begins.text.text.is ∙ cut-text o are in
-    let same = last-same (lines ++ h.front) (map (join_with_byte 32) (lines_of o)) h.last [] parts in
-    let words : lines_of o ≡ map words_in lines ++ map words_in h.front = sym (cut-lines (lines_of o) (lines-clean o are)) ∙ ap (map words_in) (sym same.0) ∙ map-append words_in lines h.front in
-    run-not_first false (map words_in lines) (map words_in h.front) o (record { are = are; one_unit = λ one. begins.text.one_unit }) words
+    let parts : (lines ++ h.prefix) ++ h.last ∷ [] ≡ map (join_with_byte 32) (lines_of o) ++ [] ∷ [] =
+    append_assoc lines h.prefix (h.last ∷ []) ∙ ap (λ l. lines ++ l) (sym h.is) ∙ sym (cut-ended lines begins.behind unbroken) ∙ ap (cut_at 10) begins.text.text.is ∙ cut-text o are in
+    let same = last-same (lines ++ h.prefix) (map (join_with_byte 32) (lines_of o)) h.last [] parts in
+    let words : lines_of o ≡ map words_in lines ++ map words_in h.prefix = sym (cut-lines (lines_of o) (lines-clean o are)) ∙ ap (map words_in) (sym same.0) ∙ map-append words_in lines h.prefix in
+    run-not_first false (map words_in lines) (map words_in h.prefix) o (record { are = are; one_unit = λ one. begins.text.one_unit }) words
 
 -- ---- the line at fault
 
 -- lines up to the one that does not fit, which is missing where there is none
 pub record Blames (lines : List Word) (m : ℕ) : Type 0 where
-  pub front : List Word
+  pub prefix : List Word
   pub behind : List Word
-  pub is : lines ≡ front ++ behind
-  pub number : m ≡ length front + 1
+  pub is : lines ≡ prefix ++ behind
+  pub number : m ≡ length prefix + 1
   pub last : Progress
-  pub reads : run_in false at.Start (map words_in front) ≡ Some last
+  pub reads : run_in false at.Start (map words_in prefix) ≡ Some last
   pub fails : (line : Word) (others : List Word) → behind ≡ line ∷ others → next_in false last (words_in line) ≡ None
 
 from-stops : (lines : List Word) (m : ℕ) → Stops false 1 at.Start lines m → Blames lines m
 from-stops lines m s = record {
-  front = s.front;
+  prefix = s.prefix;
   behind = s.line ∷ s.behind;
   is = s.is;
   number = omega (arith, s.number);
@@ -152,7 +152,7 @@ same-number n m go h = cc
 blames-by : (lines : List Word) (last : Word) (m : ℕ) (r : Result Progress ℕ) → follow false 1 at.Start lines ≡ r → then r (λ p. at_line (length lines + 1) (if_none last (done_of p))) ≡ Err m → Blames lines m
 blames-by lines last m (Ok p) is h =
     record {
-      front = lines;
+      prefix = lines;
       behind = [];
       is = sym (append-nil lines);
       number = sym (at-end (length lines + 1) m (if_none last (done_of p)) h);
@@ -169,16 +169,16 @@ blames lines last m h = blames-by lines last m (follow false 1 at.Start lines) r
 -- the first lines of bytes are the parts that stand first
 first-lines : (m : ℕ) (longer bytes : List ℕ) (first : AreFirstLines m longer bytes) → cut_at 10 bytes ≡ first.lines ++ cut_at 10 first.behind
 first-lines m longer bytes first =
-    ap (cut_at 10) (first.is ∙ ap (λ l. l ++ first.behind) first.front_is) ∙ cut-ended first.lines first.behind (all-has_no first.lines first.within)
+    ap (cut_at 10) (first.is ∙ ap (λ l. l ++ first.behind) first.prefix_is) ∙ cut-ended first.lines first.behind (all-has_no first.lines first.within)
 
-same-front : {A : Type 0} (xs ys zs ws : List A) → xs ++ ys ≡ zs ++ ws → length xs ≡ length zs → xs ≡ zs
-same-front xs ys zs ws h l = sym (take-append_seam xs ys) ∙ (λ i. take (l i) (h i)) ∙ take-append_seam zs ws
+same-prefix : {A : Type 0} (xs ys zs ws : List A) → xs ++ ys ≡ zs ++ ws → length xs ≡ length zs → xs ≡ zs
+same-prefix xs ys zs ws h l = sym (take-append_seam xs ys) ∙ (λ i. take (l i) (h i)) ∙ take-append_seam zs ws
 
-no-read : (front : List Word) (line : Word) (last p : Progress) → run_in false at.Start (map words_in front) ≡ Some last → next_in false last (words_in line) ≡ None → run_in false at.Start (map words_in (front ++ line ∷ [])) ≡ Some p → ⊥
+no-read : (prefix : List Word) (line : Word) (last p : Progress) → run_in false at.Start (map words_in prefix) ≡ Some last → next_in false last (words_in line) ≡ None → run_in false at.Start (map words_in (prefix ++ line ∷ [])) ≡ Some p → ⊥
 unfolding run_in
-no-read front line last p reads fails h =
-    let none : run_in false at.Start (map words_in (front ++ line ∷ [])) ≡ None =
-    ap (run_in false at.Start) (map-append words_in front (line ∷ [])) ∙ run-append false at.Start (map words_in front) (words_in line ∷ [])
+no-read prefix line last p reads fails h =
+    let none : run_in false at.Start (map words_in (prefix ++ line ∷ [])) ≡ None =
+    ap (run_in false at.Start) (map-append words_in prefix (line ∷ [])) ∙ run-append false at.Start (map words_in prefix) (words_in line ∷ [])
     ∙ ap (λ o. o >>= λ q. run_in false q (words_in line ∷ [])) reads ∙ ap (λ o. o >>= λ q. Some q) fails in
     cc
 
@@ -186,33 +186,33 @@ cannot-by : (lines : List Word) (last : Word) (m : ℕ) (b : Blames lines m) (be
 cannot-by lines last m b [] none longer bytes cut first begins =
     let parts = sym (first-lines m longer bytes first) ∙ cut in
     let h = last-of (cut_at 10 first.behind) (cut-some 10 first.behind) in
-    let whole : lines ≡ b.front = b.is ∙ ap (λ l. b.front ++ l) none ∙ append-nil b.front in
-    omega (arith, ap length parts, length-append first.lines (cut_at 10 first.behind), length-append lines (last ∷ []), ap length h.is, length-append h.front (h.last ∷ []), first.count, b.number, ap length whole)
+    let whole : lines ≡ b.prefix = b.is ∙ ap (λ l. b.prefix ++ l) none ∙ append-nil b.prefix in
+    omega (arith, ap length parts, length-append first.lines (cut_at 10 first.behind), length-append lines (last ∷ []), ap length h.is, length-append h.prefix (h.last ∷ []), first.count, b.number, ap length whole)
 cannot-by lines last m b (line ∷ others) some longer bytes cut first begins =
-    let parts : first.lines ++ cut_at 10 first.behind ≡ (b.front ++ line ∷ []) ++ (others ++ last ∷ []) =
-    sym (first-lines m longer bytes first) ∙ cut ∙ ap (λ l. l ++ last ∷ []) (b.is ∙ ap (λ l. b.front ++ l) some) ∙ append_assoc b.front (line ∷ others) (last ∷ []) ∙ sym (append_assoc b.front (line ∷ []) (others ++ last ∷ [])) in
-    let same = same-front first.lines (cut_at 10 first.behind) (b.front ++ line ∷ []) (others ++ last ∷ []) parts (first.count ∙ b.number ∙ sym (length-append b.front (line ∷ []))) in
-    let read = begins-read first.lines (all-has_no first.lines first.within) (subst CanBegin first.front_is begins) in
-    no-read b.front line b.last read.0 b.reads (b.fails line others some) (subst (λ l. run_in false at.Start (map words_in l) ≡ Some read.0) same read.1)
+    let parts : first.lines ++ cut_at 10 first.behind ≡ (b.prefix ++ line ∷ []) ++ (others ++ last ∷ []) =
+    sym (first-lines m longer bytes first) ∙ cut ∙ ap (λ l. l ++ last ∷ []) (b.is ∙ ap (λ l. b.prefix ++ l) some) ∙ append_assoc b.prefix (line ∷ others) (last ∷ []) ∙ sym (append_assoc b.prefix (line ∷ []) (others ++ last ∷ [])) in
+    let same = same-prefix first.lines (cut_at 10 first.behind) (b.prefix ++ line ∷ []) (others ++ last ∷ []) parts (first.count ∙ b.number ∙ sym (length-append b.prefix (line ∷ []))) in
+    let read = begins-read first.lines (all-has_no first.lines first.within) (subst CanBegin first.prefix_is begins) in
+    no-read b.prefix line b.last read.0 b.reads (b.fails line others some) (subst (λ l. run_in false at.Start (map words_in l) ≡ Some read.0) same read.1)
 
 pub bad-at : (bytes : List ℕ) (lines : List Word) (last : Word) (m : ℕ) → cut_at 10 bytes ≡ lines ++ last ∷ [] → text_in false lines last ≡ Err m → IsBadAt m bytes
 bad-at bytes lines last m cut h =
     let b = blames lines last m h in
-    let no = all-front (HasNo 10) b.front (b.behind ++ last ∷ []) (subst (All (HasNo 10)) (cut ∙ ap (λ l. l ++ last ∷ []) b.is ∙ append_assoc b.front b.behind (last ∷ [])) (cut-parts 10 bytes)) in
+    let no = all-prefix (HasNo 10) b.prefix (b.behind ++ last ∷ []) (subst (All (HasNo 10)) (cut ∙ ap (λ l. l ++ last ∷ []) b.is ∙ append_assoc b.prefix b.behind (last ∷ [])) (cut-parts 10 bytes)) in
     record {
       none = λ o is. let again = text-again false bytes lines last o cut (record { are = is.text.are; one_unit = λ one. is.one_unit }) is.text.is in absurd (cc);
-      before = length b.front;
+      before = length b.prefix;
       follows = b.number;
-      front = ended b.front;
+      prefix = ended b.prefix;
       lines = record {
-        lines = b.front;
+        lines = b.prefix;
         behind = ended b.behind ++ last;
         count = refl;
-        within = all-within b.front no;
-        front_is = refl;
-        is = cut-is bytes lines last cut ∙ ap (λ l. ended l ++ last) b.is ∙ ap (λ l. l ++ last) (flat_map-append (λ line. line ++ 10 ∷ []) b.front b.behind) ∙ append_assoc (ended b.front) (ended b.behind) last;
+        within = all-within b.prefix no;
+        prefix_is = refl;
+        is = cut-is bytes lines last cut ∙ ap (λ l. ended l ++ last) b.is ∙ ap (λ l. l ++ last) (flat_map-append (λ line. line ++ 10 ∷ []) b.prefix b.behind) ∙ append_assoc (ended b.prefix) (ended b.behind) last;
       };
-      can = can-begin b.front b.last b.reads;
+      can = can-begin b.prefix b.last b.reads;
       cannot = λ longer first begins. cannot-by lines last m b b.behind refl longer bytes cut first begins;
     }
 

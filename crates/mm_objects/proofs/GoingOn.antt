@@ -1,4 +1,4 @@
--- Each front of lines that is read can be gone on with, so that the lines are those of objects.
+-- Each prefix of lines that is read can be gone on with, so that the lines are those of objects.
 use Rattle.std.proofs.Common.{◌≡◌, ℕ, zero, suc, ◌-◌, ◌+◌, Bool, true, false, cond, eqb, List, [], ◌∷◌, ◌++◌, length, All, Some, refl, ap, sym, ◌∙◌, arith, flat_map}
 use Rattle.std.specs.List.{enumerate_from}
 use Rattle.std.proofs.lemmas.List.Elements.{All-nil, All-cons}

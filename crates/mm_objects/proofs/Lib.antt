@@ -15,3 +15,4 @@ pub mod SplitLemmas
 pub mod TextLaws
 pub mod FaultLaws
 pub mod WriteLemmas
+pub mod Standing

@@ -6,9 +6,9 @@ use Rattle.std.specs.Fmt.{decimal}
 use Rattle.std.proofs.lemmas.Bool.{eqb-true, false_from_ne_true, both_ways}
 use Rattle.std.proofs.lemmas.List.Elements.{All-nil, All-cons, All-head, All-tail}
 use Rattle.std.proofs.lemmas.List.Splits.{slice_split_at, slice_split_none, join_with_byte-slice_split}
-use Rattle.mm_collect.specs.declared.program.Op.{Op}
-use Rattle.mm_collect.specs.declared.program.Op.TheVariants.{Add, Sub, Mul, Div, Rem, Eq, Lt}
-use Rattle.mm_collect.specs.declared.program.Arm.{Arm}
+use Rattle.mm_program.specs.declared.program.Op.{Op}
+use Rattle.mm_program.specs.declared.program.Op.TheVariants.{Add, Sub, Mul, Div, Rem, Eq, Lt}
+use Rattle.mm_program.specs.declared.program.Arm.{Arm}
 use Rattle.mm_objects.specs.declared.objects.ObjInstr.{ObjInstr}
 use Rattle.mm_objects.specs.declared.objects.ObjInstr.TheVariants as instrs
 use Rattle.mm_objects.specs.declared.objects.ObjRvalue.{ObjRvalue}
@@ -203,9 +203,9 @@ listed-sound mark blocks ws p h =
     let n = (below-reads blocks).sound x.0.2 k.0 k.1 in
     subst (λ q. IsBelow blocks q.1 × (q.0 ++ mark ∷ decimal q.1 ∷ [] ≡ ws)) (some_same _ _ k.2) (n.0, (λ i. x.0.0 ++ sym m.0 i ∷ n.1 i ∷ []) ∙ last_two-is ws x.0 x.1)
 
-listed-again : (mark : Word) (blocks : ℕ) (front : Line) (k : ℕ) → IsBelow blocks k → listed_in mark blocks (front ++ mark ∷ decimal k ∷ []) ≡ Some (front, k)
+listed-again : (mark : Word) (blocks : ℕ) (prefix : Line) (k : ℕ) → IsBelow blocks k → listed_in mark blocks (prefix ++ mark ∷ decimal k ∷ []) ≡ Some (prefix, k)
 unfolding listed_in
-listed-again mark blocks front k is = rw (last_two-at front mark (decimal k), same_word mark, (below-reads blocks).again k is) refl
+listed-again mark blocks prefix k is = rw (last_two-at prefix mark (decimal k), same_word mark, (below-reads blocks).again k is) refl
 
 -- an arm is cut at its colon
 no_colon : (ds : List ℕ) → list_all is_ascii_digit ds ≡ true → All (λ b. eqb b 58 ≡ false) ds

@@ -50,32 +50,32 @@ last_two-short ws h = last_two-none (seen ws) (omega (arith, seen-length ws))
 -- ---- a thing for each word
 
 -- what a loop has made, and then what is made of the others
-abbrev pub with_front : {A : Type 0} → List A → Option (List A) → Option (List A)
-with_front xs o = o >>= λ ys. Some (xs ++ ys)
+abbrev pub with_prefix : {A : Type 0} → List A → Option (List A) → Option (List A)
+with_prefix xs o = o >>= λ ys. Some (xs ++ ys)
 
 all_in-here : {A : Type 0} (read : Word → Option A) (ws : List (Bor Word)) (i : ℕ) (d : Bor Word) → i < length ws → all_in read (seen (drop i ws)) ≡ (read (get_or ws i d).now >>= λ a. all_in read (seen (drop (i + 1) ws)) >>= λ others. Some (a ∷ others))
 unfolding all_in
 all_in-here read ws i d within = rw (drop-cons ws i d within, add-one) refl
 
-front-more : {A : Type 0} (xs : List A) (a : A) (o : Option (List A)) → with_front xs (o >>= λ others. Some (a ∷ others)) ≡ with_front (xs ++ a ∷ []) o
-front-more xs a None = refl
-front-more xs a (Some ys) = ap Some (sym (append_assoc xs (a ∷ []) ys))
+prefix-more : {A : Type 0} (xs : List A) (a : A) (o : Option (List A)) → with_prefix xs (o >>= λ others. Some (a ∷ others)) ≡ with_prefix (xs ++ a ∷ []) o
+prefix-more xs a None = refl
+prefix-more xs a (Some ys) = ap Some (sym (append_assoc xs (a ∷ []) ys))
 
 -- what such a loop keeps after one more turn
 pub all_in-step : {A : Type 0} (read : Word → Option A) (ws : List (Bor Word)) (i : ℕ) (d : Bor Word) (a : A) (xs more : List A) (whole : Option (List A))
-    → whole ≡ with_front xs (all_in read (seen (drop i ws))) → i < length ws → read (get_or ws i d).now ≡ Some a → more ≡ xs ++ a ∷ []
-    → whole ≡ with_front more (all_in read (seen (drop (i + 1) ws)))
+    → whole ≡ with_prefix xs (all_in read (seen (drop i ws))) → i < length ws → read (get_or ws i d).now ≡ Some a → more ≡ xs ++ a ∷ []
+    → whole ≡ with_prefix more (all_in read (seen (drop (i + 1) ws)))
 all_in-step read ws i d a xs more whole so_far within reads grown =
-    so_far ∙ ap (with_front xs) (all_in-here read ws i d within ∙ ap (λ o. o >>= λ a. all_in read (seen (drop (i + 1) ws)) >>= λ others. Some (a ∷ others)) reads) ∙ front-more xs a (all_in read (seen (drop (i + 1) ws))) ∙ ap (λ ys. with_front ys (all_in read (seen (drop (i + 1) ws)))) (sym grown)
+    so_far ∙ ap (with_prefix xs) (all_in-here read ws i d within ∙ ap (λ o. o >>= λ a. all_in read (seen (drop (i + 1) ws)) >>= λ others. Some (a ∷ others)) reads) ∙ prefix-more xs a (all_in read (seen (drop (i + 1) ws))) ∙ ap (λ ys. with_prefix ys (all_in read (seen (drop (i + 1) ws)))) (sym grown)
 
 -- where a word is not read, nothing is
 pub all_in-stop : {A : Type 0} (read : Word → Option A) (ws : List (Bor Word)) (i : ℕ) (d : Bor Word) (xs : List A) (whole : Option (List A))
-    → whole ≡ with_front xs (all_in read (seen (drop i ws))) → i < length ws → read (get_or ws i d).now ≡ None → whole ≡ None
+    → whole ≡ with_prefix xs (all_in read (seen (drop i ws))) → i < length ws → read (get_or ws i d).now ≡ None → whole ≡ None
 all_in-stop read ws i d xs whole so_far within reads =
-    so_far ∙ ap (with_front xs) (all_in-here read ws i d within ∙ ap (λ o. o >>= λ a. all_in read (seen (drop (i + 1) ws)) >>= λ others. Some (a ∷ others)) reads)
+    so_far ∙ ap (with_prefix xs) (all_in-here read ws i d within ∙ ap (λ o. o >>= λ a. all_in read (seen (drop (i + 1) ws)) >>= λ others. Some (a ∷ others)) reads)
 
 pub all_in-end : {A : Type 0} (read : Word → Option A) (ws : List (Bor Word)) (i : ℕ) (xs : List A) (whole : Option (List A))
-    → whole ≡ with_front xs (all_in read (seen (drop i ws))) → length ws ≤ i → whole ≡ Some xs
+    → whole ≡ with_prefix xs (all_in read (seen (drop i ws))) → length ws ≤ i → whole ≡ Some xs
 unfolding all_in
 all_in-end read ws i xs whole so_far past = so_far ∙ rw (drop_all i ws past, append-nil) refl
 

@@ -63,14 +63,14 @@ eqb-self n = grind (arith, nat_tests)
 
 -- ---- fronts
 
-pub behind-sound : (front : List ℕ) (w : Word) (rest : List ℕ) → behind front w ≡ Some rest → front ++ rest ≡ w
-behind-sound front w rest h =
-    let parts = cond_some (bytes_eq (take (length front) w) front) (drop (length front) w) rest h in
-    let first : take (length front) w ≡ front = word_is (take (length front) w) front parts.0 in
-    (λ i. sym first i ++ sym parts.1 i) ∙ take-append-drop (length front) w
+pub behind-sound : (prefix : List ℕ) (w : Word) (rest : List ℕ) → behind prefix w ≡ Some rest → prefix ++ rest ≡ w
+behind-sound prefix w rest h =
+    let parts = cond_some (bytes_eq (take (length prefix) w) prefix) (drop (length prefix) w) rest h in
+    let first : take (length prefix) w ≡ prefix = word_is (take (length prefix) w) prefix parts.0 in
+    (λ i. sym first i ++ sym parts.1 i) ∙ take-append-drop (length prefix) w
 
-pub behind-again : (front rest : List ℕ) → behind front (front ++ rest) ≡ Some rest
-behind-again front rest = rw (take-append_seam, drop-append_seam, same_word front) refl
+pub behind-again : (prefix rest : List ℕ) → behind prefix (prefix ++ rest) ≡ Some rest
+behind-again prefix rest = rw (take-append_seam, drop-append_seam, same_word prefix) refl
 
 -- ---- numbers
 
@@ -117,8 +117,8 @@ pub no_word : (w : Word) (k : ℕ) (ks : Word) → BeginsWithDigit w → is_asci
 no_word w k ks b other = false_from_ne_true (bytes_eq w (k ∷ ks)) (λ same. digit_apart b.first k b.digit other (head_same b.first k b.others ks (sym b.is ∙ word_is w (k ∷ ks) same)))
 
 -- and has no front that begins otherwise
-pub no_front : (w : Word) (k : ℕ) (ks : Word) → BeginsWithDigit w → is_ascii_digit k ≡ false → behind (k ∷ ks) w ≡ None
-no_front w k ks b other =
+pub no_prefix : (w : Word) (k : ℕ) (ks : Word) → BeginsWithDigit w → is_ascii_digit k ≡ false → behind (k ∷ ks) w ≡ None
+no_prefix w k ks b other =
     ap (λ v. cond v (Some (drop (length (k ∷ ks)) w)) None) (false_from_ne_true (bytes_eq (take (length (k ∷ ks)) w) (k ∷ ks)) (λ same.
     let found : behind (k ∷ ks) w ≡ Some (drop (length (k ∷ ks)) w) = rw same refl in
     digit_apart b.first k b.digit other (head_same b.first k b.others _ (sym b.is ∙ sym (behind-sound (k ∷ ks) w _ found)))))

@@ -243,7 +243,7 @@ instr-step : (several : Bool) (c : OpenCode) (instrs : List ObjInstr) (ws : Line
     → instr_or_end c instrs found ws ≡ Some q → IsNext several (so_far (at.Block c instrs)) ws q
 instr-step several c instrs ws q is all (Some instr) reads h =
     let x = (instr-reads c.header.locals).sound ws instr reads in
-    let front = code_so_far c ++ label_line (length c.blocks) ∷ [] in
+    let prefix = code_so_far c ++ label_line (length c.blocks) ∷ [] in
     subst (IsNext several (so_far (at.Block c instrs)) ws) (some_same _ _ h) (
       (is, all-more (IsInstr c.header.locals) instrs instr all x.0),
       ap (λ l. code_so_far c ++ label_line (length c.blocks) ∷ l) (map-more instr_words instrs instr ∙ ap (λ l. map instr_words instrs ++ l ∷ []) x.1)
@@ -280,4 +280,4 @@ run-sound several p (l ∷ ls) q is h =
     let n = bind_some (next_in several p l) _ q h in
     let s = step-sound several p l n.0 is n.1 in
     let r = run-sound several n.0 ls q s.0 n.2 in
-    (r.0, r.1 ∙ ap (λ front. front ++ ls) s.1 ∙ append_assoc (so_far p) (l ∷ []) ls)
+    (r.0, r.1 ∙ ap (λ prefix. prefix ++ ls) s.1 ∙ append_assoc (so_far p) (l ∷ []) ls)

@@ -25,13 +25,13 @@ follow-run several n p q (l ∷ ls) h =
 
 -- where following ends
 pub record Stops (several : Bool) (n : ℕ) (p : Progress) (lines : List Word) (m : ℕ) : Type 0 where
-  pub front : List Word
+  pub prefix : List Word
   pub line : Word
   pub behind : List Word
-  pub is : lines ≡ front ++ line ∷ behind
-  pub number : m ≡ n + length front
+  pub is : lines ≡ prefix ++ line ∷ behind
+  pub number : m ≡ n + length prefix
   pub last : Progress
-  pub reads : run_in several p (map words_in front) ≡ Some last
+  pub reads : run_in several p (map words_in prefix) ≡ Some last
   pub fails : next_in several last (words_in line) ≡ None
 
 err_same : {A : Type 0} (r : Result A ℕ) (m n : ℕ) → r ≡ Err m → r ≡ Err n → m ≡ n
@@ -44,17 +44,17 @@ stops-at : (several : Bool) (n : ℕ) (p : Progress) (l : Word) (ls : List Word)
     → ((q : Progress) → follow several (n + 1) q ls ≡ Err m → Stops several (n + 1) q ls m)
     → then (at_line n o) (λ next. follow several (n + 1) next ls) ≡ Err m → Stops several n p (l ∷ ls) m
 unfolding run_in
-stops-at several n p l ls m None is others h = record { front = []; line = l; behind = ls; is = refl; number = omega (arith, err_same (Err n) n m refl h); last = p; reads = refl; fails = is }
+stops-at several n p l ls m None is others h = record { prefix = []; line = l; behind = ls; is = refl; number = omega (arith, err_same (Err n) n m refl h); last = p; reads = refl; fails = is }
 stops-at several n p l ls m (Some q) is others h =
     let s = others q h in
     record {
-      front = l ∷ s.front;
+      prefix = l ∷ s.prefix;
       line = s.line;
       behind = s.behind;
       is = ap (λ k. l ∷ k) s.is;
       number = omega (arith, s.number);
       last = s.last;
-      reads = ap (λ o. o >>= λ q. run_in several q (map words_in s.front)) is ∙ s.reads;
+      reads = ap (λ o. o >>= λ q. run_in several q (map words_in s.prefix)) is ∙ s.reads;
       fails = s.fails;
     }
 
@@ -92,11 +92,11 @@ done_of-is (at.Block c instrs) o h = absurd (cc)
 done_of-is (at.Done d) o h = ap at.Done (some_same d o h)
 
 finished : (n : ℕ) (p : Progress) (last : Word) (o : Objects) → at_line n (if_none last (done_of p)) ≡ Ok o → Finished p last o
-finished n p [] o h = record { nothing = refl; done = done_of-is p o (told (done_of p) h) }
+finished n p [] o h = record { nothing = refl; done = done_of-is p o (reported (done_of p) h) }
   where
-    told : (d : Option Objects) → at_line n d ≡ Ok o → d ≡ Some o
-    told None h = absurd (cc)
-    told (Some d) h = ap Some (ok_same (Ok d) d o refl h)
+    reported : (d : Option Objects) → at_line n d ≡ Ok o → d ≡ Some o
+    reported None h = absurd (cc)
+    reported (Some d) h = ap Some (ok_same (Ok d) d o refl h)
 finished n p (c ∷ cs) o h = absurd (cc)
 
 -- the parts of a text that is read

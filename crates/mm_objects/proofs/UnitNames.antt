@@ -72,11 +72,11 @@ path_cut-sound (n ∷ gap ∷ m ∷ ms) h =
 
 -- the test of a name answers as it should
 pub name_test : (bytes : List ℕ) (is : Bool) → IsTrue is ↔ IsName bytes → is ≡ is_name bytes
-name_test bytes true told = sym (is_name-complete bytes (told.0 refl))
-name_test bytes false told = by (is_name bytes) refl
+name_test bytes true reported = sym (is_name-complete bytes (reported.0 refl))
+name_test bytes false reported = by (is_name bytes) refl
   where
     by : (b : Bool) → is_name bytes ≡ b → false ≡ is_name bytes
-    by true h = absurd (let both : false ≡ true = told.1 (is_name-sound bytes h) in cc)
+    by true h = absurd (let both : false ≡ true = reported.1 (is_name-sound bytes h) in cc)
     by false h = sym h
 
 -- one turn of the loop over the parts
@@ -224,9 +224,9 @@ stability-no_dot : (stable : Bool) → HasNo 46 (stability_text stable)
 stability-no_dot true = all_other 46 (codes "stable") refl
 stability-no_dot false = all_other 46 (codes "volatile") refl
 
-stability-told : (stable : Bool) → is_stability (stability_text stable) ≡ true
-stability-told true = refl
-stability-told false = refl
+stability-reported : (stable : Bool) → is_stability (stability_text stable) ≡ true
+stability-reported true = refl
+stability-reported false = refl
 
 stability-clean : (stable : Bool) → IsClean (stability_text stable)
 stability-clean true = refl
@@ -249,9 +249,9 @@ module _ (krate n : List ℕ) (ns : List (List ℕ)) (stable : Bool) (krate_is :
   cut-name : cut_at 47 (krate ++ 47 ∷ unit) ≡ krate ∷ unit ∷ []
   cut-name = slice_split_at (λ b. eqb b 47) krate 47 unit (no_slash krate krate_is) refl ∙ ap (λ l. krate ∷ l) (slice_split_none (λ b. eqb b 47) unit unit-no_slash)
 
-  told : is_unit_name (krate ++ 47 ∷ unit) ≡ true
+  reported : is_unit_name (krate ++ 47 ∷ unit) ≡ true
   unfolding is_unit_name
-  told = rw (cut-name, is_name-complete krate krate_is, cut-unit, stability-told stable, cut-path n ns each, spread-cut n ns each) refl
+  reported = rw (cut-name, is_name-complete krate krate_is, cut-unit, stability-reported stable, cut-path n ns each, spread-cut n ns each) refl
 
   clean : IsClean (krate ++ 47 ∷ unit)
   clean = joined krate (47 ∷ unit) (name-clean krate krate_is) (joined path (46 ∷ stability_text stable) (path-clean n ns each) (stability-clean stable))
@@ -266,7 +266,7 @@ both-laws : (bytes krate : List ℕ) (names : List (List ℕ)) (stable : Bool) �
 both-laws bytes krate [] stable krate_is path_is is = absurd (path_is.some refl)
 both-laws bytes krate (n ∷ ns) stable krate_is path_is is =
     let whole = is ∙ together krate n ns stable krate_is path_is.each in
-    (ap is_unit_name whole ∙ told krate n ns stable krate_is path_is.each, subst IsClean (sym whole) (clean krate n ns stable krate_is path_is.each))
+    (ap is_unit_name whole ∙ reported krate n ns stable krate_is path_is.each, subst IsClean (sym whole) (clean krate n ns stable krate_is path_is.each))
 
 pub unit_name-complete : (bytes : Word) → IsUnitName bytes → is_unit_name bytes ≡ true
 unit_name-complete bytes is = (both-laws bytes is.krate is.names is.stable is.krate_is is.path_is is.is).0

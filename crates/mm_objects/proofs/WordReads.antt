@@ -1,8 +1,8 @@
 -- Laws of the readers of words.
 use Rattle.std.proofs.Common.{◌≡◌, ℕ, ◌<◌, ◌^◌, ◌-◌, true, false, ◌++◌, codes, Option, Some, None, refl, ap, sym, ◌∙◌, subst, arith, inl, inr}
 use Rattle.std.specs.Fmt.{decimal}
-use Rattle.mm_collect.specs.declared.program.Op.{Op}
-use Rattle.mm_collect.specs.declared.program.Op.TheVariants.{Add, Sub, Mul, Div, Rem, Eq, Lt}
+use Rattle.mm_program.specs.declared.program.Op.{Op}
+use Rattle.mm_program.specs.declared.program.Op.TheVariants.{Add, Sub, Mul, Div, Rem, Eq, Lt}
 use Rattle.mm_objects.specs.declared.objects.Linkage.{Linkage}
 use Rattle.mm_objects.specs.declared.objects.Linkage.TheVariants.{External, Internal}
 use Rattle.mm_objects.specs.declared.objects.ObjPlace.{ObjPlace}
@@ -17,7 +17,7 @@ use Rattle.mm_objects.specs.ObjectText.{Word, base_text, place_text, operand_tex
 use Rattle.mm_objects.specs.ObjectForms.{IsBase, IsPlace, IsOperand, IsCallee}
 use Rattle.mm_objects.specs.LineReading.{◌>>=◌, behind, below_in, place_in, copied_in, moved_in, truth_in, literal_in, operand_in, op_in, linkage_in, symbol_in, callee_in}
 use Rattle.mm_objects.proofs.NameLaws.{symbol-reads}
-use Rattle.mm_objects.proofs.ReadTools.{Reads, some_same, bind_some, or_some, keyed, keyed_only, behind-sound, number-reads, below-reads, BeginsWithDigit, decimal-begins, no_word, no_front}
+use Rattle.mm_objects.proofs.ReadTools.{Reads, some_same, bind_some, or_some, keyed, keyed_only, behind-sound, number-reads, below-reads, BeginsWithDigit, decimal-begins, no_word, no_prefix}
 
 place-sound : (locals : ℕ) (w : Word) (place : ObjPlace) → place_in locals w ≡ Some place → IsPlace locals place × (place_text place ≡ w)
 unfolding place_in
@@ -70,20 +70,20 @@ linkage-reads = record { sound = λ w link h. (tt, linkage-sound w link h); agai
 op-sound : (w : Word) (op : Op) → op_in w ≡ Some op → op_text op ≡ w
 unfolding op_in
 op-sound w op h =
-    let told : (o : Op) → w ≡ op_text o → Some o ≡ Some op → op_text op ≡ w = λ o is same. subst (λ l. op_text l ≡ w) (some_same _ _ same) (sym is) in
+    let reported : (o : Op) → w ≡ op_text o → Some o ≡ Some op → op_text op ≡ w = λ o is same. subst (λ l. op_text l ≡ w) (some_same _ _ same) (sym is) in
     elim (keyed w (codes "add") _ _ op h) [
-      | inl p ↦ told Add p.0 p.1
+      | inl p ↦ reported Add p.0 p.1
       | inr h ↦ elim (keyed w (codes "sub") _ _ op h) [
-        | inl p ↦ told Sub p.0 p.1
+        | inl p ↦ reported Sub p.0 p.1
         | inr h ↦ elim (keyed w (codes "mul") _ _ op h) [
-          | inl p ↦ told Mul p.0 p.1
+          | inl p ↦ reported Mul p.0 p.1
           | inr h ↦ elim (keyed w (codes "div") _ _ op h) [
-            | inl p ↦ told Div p.0 p.1
+            | inl p ↦ reported Div p.0 p.1
             | inr h ↦ elim (keyed w (codes "rem") _ _ op h) [
-              | inl p ↦ told Rem p.0 p.1
+              | inl p ↦ reported Rem p.0 p.1
               | inr h ↦ elim (keyed w (codes "eq") _ _ op h) [
-                | inl p ↦ told Eq p.0 p.1
-                | inr h ↦ let p = keyed_only w (codes "lt") _ op h in told Lt p.0 p.1
+                | inl p ↦ reported Eq p.0 p.1
+                | inr h ↦ let p = keyed_only w (codes "lt") _ op h in reported Lt p.0 p.1
               ]
             ]
           ]
@@ -154,11 +154,11 @@ bind_none o go h = ap (λ x. x >>= go) h
 
 copied-not : (locals : ℕ) (w : Word) → BeginsWithDigit w → copied_in locals w ≡ None
 unfolding copied_in
-copied-not locals w b = bind_none (behind (codes "copy:") w) _ (no_front w 99 (codes "opy:") b refl)
+copied-not locals w b = bind_none (behind (codes "copy:") w) _ (no_prefix w 99 (codes "opy:") b refl)
 
 moved-not : (locals : ℕ) (w : Word) → BeginsWithDigit w → moved_in locals w ≡ None
 unfolding moved_in
-moved-not locals w b = bind_none (behind (codes "move:") w) _ (no_front w 109 (codes "ove:") b refl)
+moved-not locals w b = bind_none (behind (codes "move:") w) _ (no_prefix w 109 (codes "ove:") b refl)
 
 truth-not : (w : Word) → BeginsWithDigit w → truth_in w ≡ None
 unfolding truth_in

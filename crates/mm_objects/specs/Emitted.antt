@@ -6,20 +6,20 @@ use Rattle.std.specs.Ordering.{nat_cmp}
 use Rattle.mm_terms.specs.declared.tree.Tree.{Tree}
 use Rattle.mm_terms.specs.declared.item.Item.{Item}
 use Rattle.mm_terms.specs.declared.item.Item.TheVariants.{Fn, Glue, Shim, Static}
-use Rattle.mm_collect.specs.declared.program.Program.{Program}
-use Rattle.mm_collect.specs.declared.program.Function.{Function}
-use Rattle.mm_collect.specs.declared.program.Block.{Block}
-use Rattle.mm_collect.specs.declared.program.Place.{Place}
-use Rattle.mm_collect.specs.declared.program.Statement.{Statement}
-use Rattle.mm_collect.specs.declared.program.Statement.TheVariants.{Set, Print}
-use Rattle.mm_collect.specs.declared.program.Rvalue.{Rvalue}
-use Rattle.mm_collect.specs.declared.program.Rvalue.TheVariants.{Use, Not, Binary}
-use Rattle.mm_collect.specs.declared.program.Operand.{Operand}
-use Rattle.mm_collect.specs.declared.program.Operand.TheVariants.{Copy, Move, Num, Truth}
-use Rattle.mm_collect.specs.declared.program.End.{End}
-use Rattle.mm_collect.specs.declared.program.End.TheVariants.{Return, Unreachable, Goto, Switch, Call}
-use Rattle.mm_collect.specs.Roots.{item_of}
-use Rattle.mm_collect.specs.Uses.{called, candidates_of}
+use Rattle.mm_program.specs.declared.program.Program.{Program}
+use Rattle.mm_program.specs.declared.program.Function.{Function}
+use Rattle.mm_program.specs.declared.program.Block.{Block}
+use Rattle.mm_program.specs.declared.program.Place.{Place}
+use Rattle.mm_program.specs.declared.program.Statement.{Statement}
+use Rattle.mm_program.specs.declared.program.Statement.TheVariants.{Set, Print}
+use Rattle.mm_program.specs.declared.program.Rvalue.{Rvalue}
+use Rattle.mm_program.specs.declared.program.Rvalue.TheVariants.{Use, Not, Binary}
+use Rattle.mm_program.specs.declared.program.Operand.{Operand}
+use Rattle.mm_program.specs.declared.program.Operand.TheVariants.{Copy, Move, Num, Truth}
+use Rattle.mm_program.specs.declared.program.End.{End}
+use Rattle.mm_program.specs.declared.program.End.TheVariants.{Return, Unreachable, Goto, Switch, Call}
+use Rattle.mm_program.specs.Roots.{main_item}
+use Rattle.mm_program.specs.Uses.{called, candidates_of}
 use Rattle.mm_symbols.specs.ItemForms.{form_of}
 use Rattle.mm_symbols.specs.SymbolText.{symbol_text}
 use Rattle.mm_objects.specs.declared.objects.Objects.{Objects}
@@ -68,7 +68,7 @@ instr_of (Print o) = instr.Print (operand_of o)
 
 -- ---- definitions
 
--- the end of a block in the instance at args: a call is of what it leads to there, by its symbol
+-- the end of a block in the instance at args: a call is of what it resolves to there, by its symbol
 abbrev pub end_of : Program → List Tree → End → ObjEnd
 end_of p args Return = end.Return
 end_of p args Unreachable = end.Unreachable
@@ -112,7 +112,7 @@ AreUnitsOf p _ _ = ⊥
 
 -- the objects of a program whose items are shared out so
 pub record AreObjectsOf (p : Program) (shares : List Share) (objects : Objects) : Type 0 where
-  pub main : objects.main ≡ item_symbol p (item_of p.main.0)
+  pub main : objects.main ≡ item_symbol p (main_item p)
   pub units : AreUnitsOf p shares objects.units
 
 -- all items in one unit, `<crate>/<crate>.stable`, where every definition is External

@@ -6,4 +6,5 @@ pub mod LineReading
 pub mod TextReading
 pub mod Written
 pub mod Resolution
+pub mod Linking
 pub mod Emitted

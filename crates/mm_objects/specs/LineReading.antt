@@ -3,9 +3,9 @@ use Rattle.std.specs.Prelude.{ℕ, ◌-◌, ◌^◌, ◌==◌, ◌&&◌, ◌||�
 use Rattle.std.specs.List.{slice_split}
 use Rattle.std.specs.Option.{option_or}
 use Rattle.std.specs.Str.{bytes_eq}
-use Rattle.mm_collect.specs.declared.program.Op.{Op}
-use Rattle.mm_collect.specs.declared.program.Op.TheVariants.{Add, Sub, Mul, Div, Rem, Eq, Lt}
-use Rattle.mm_collect.specs.declared.program.Arm.{Arm}
+use Rattle.mm_program.specs.declared.program.Op.{Op}
+use Rattle.mm_program.specs.declared.program.Op.TheVariants.{Add, Sub, Mul, Div, Rem, Eq, Lt}
+use Rattle.mm_program.specs.declared.program.Arm.{Arm}
 use Rattle.mm_lex.specs.LexReading.{number_in}
 use Rattle.mm_objects.specs.declared.objects.Linkage.{Linkage}
 use Rattle.mm_objects.specs.declared.objects.Linkage.TheVariants.{External, Internal}
@@ -35,9 +35,9 @@ None >>= go = None
 
 -- ---- words
 
--- what stands behind a front
+-- what stands behind a prefix
 abbrev pub behind : List ℕ → Word → Option (List ℕ)
-behind front word = cond (bytes_eq (take (length front) word) front) (Some (drop (length front) word)) None
+behind prefix word = cond (bytes_eq (take (length prefix) word) prefix) (Some (drop (length prefix) word)) None
 
 -- a number below the limit, and below 2^32 in any case
 unfoldable pub below_in : ℕ → Word → Option ℕ

@@ -1,6 +1,6 @@
 -- Which objects have a text, and which bytes are object text.
 use Rattle.std.specs.Prelude.{◌≡◌, ℕ, ◌<◌, ◌≤◌, ◌^◌, ◌+◌, List, [], ◌∷◌, ◌++◌, length, All, flat_map}
-use Rattle.mm_collect.specs.declared.program.Arm.{Arm}
+use Rattle.mm_program.specs.declared.program.Arm.{Arm}
 use Rattle.mm_objects.specs.declared.objects.Objects.{Objects}
 use Rattle.mm_objects.specs.declared.objects.ObjUnit.{ObjUnit}
 use Rattle.mm_objects.specs.declared.objects.ObjDef.{ObjDef}
@@ -48,7 +48,7 @@ abbrev pub IsInstr : ℕ → ObjInstr → Type 0
 IsInstr locals (instrs.Set place value) = IsPlace locals place × IsRvalue locals value
 IsInstr locals (instrs.Print a) = IsOperand locals a
 
--- an arm leads to one of so many blocks
+-- an arm resolves to one of so many blocks
 abbrev pub IsArm : ℕ → Arm → Type 0
 IsArm blocks arm = (arm.number < 2 ^ 64) × IsBelow blocks arm.label
 
@@ -99,23 +99,23 @@ pub record IsUnitText (bytes : List ℕ) (o : Objects) : Type 0 where
   pub one_unit : length o.units ≡ 1
 
 -- some such text begins with these bytes
-pub record CanBegin (front : List ℕ) : Type 0 where
+pub record CanBegin (prefix : List ℕ) : Type 0 where
   pub behind : List ℕ
   pub objects : Objects
-  pub text : IsUnitText (front ++ behind) objects
+  pub text : IsUnitText (prefix ++ behind) objects
 
 -- the bytes of a line
 abbrev pub IsWithinLine : List ℕ → Type 0
 IsWithinLine line = All (λ b. b ≡ 10 → ⊥) line
 
 -- the bytes begin with so many lines, each with its LF, and these lines are the front
-pub record AreFirstLines (n : ℕ) (front bytes : List ℕ) : Type 0 where
+pub record AreFirstLines (n : ℕ) (prefix bytes : List ℕ) : Type 0 where
   pub lines : List (List ℕ)
   pub behind : List ℕ
   pub count : length lines ≡ n
   pub within : All IsWithinLine lines
-  pub front_is : front ≡ flat_map (λ line. line ++ 10 ∷ []) lines
-  pub is : bytes ≡ front ++ behind
+  pub prefix_is : prefix ≡ flat_map (λ line. line ++ 10 ∷ []) lines
+  pub is : bytes ≡ prefix ++ behind
 
 -- The bytes are no such text, and the line with the number, from 1, is to blame: some such text begins with the lines
 -- before it, and none begins with the lines up to it; it may be the line that is missing behind the last.
@@ -123,7 +123,7 @@ pub record IsBadAt (line : ℕ) (bytes : List ℕ) : Type 0 where
   pub none : (o : Objects) → IsUnitText bytes o → ⊥
   pub before : ℕ
   pub follows : line ≡ before + 1
-  pub front : List ℕ
-  pub lines : AreFirstLines before front bytes
-  pub can : CanBegin front
+  pub prefix : List ℕ
+  pub lines : AreFirstLines before prefix bytes
+  pub can : CanBegin prefix
   pub cannot : (longer : List ℕ) → AreFirstLines line longer bytes → CanBegin longer → ⊥

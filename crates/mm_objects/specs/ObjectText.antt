@@ -1,4 +1,4 @@
--- The text of objects. Its lines end with LF, and the words of a line are parted by one blank. In the rules braces repeat,
+-- The text of objects. Its lines end with LF, and the words of a line are separated by one blank. In the rules braces repeat,
 -- and what stands in brackets is replaced:
 --
 --     objects 1
@@ -22,9 +22,9 @@
 --     callee       fn:<symbol>
 use Rattle.std.specs.Prelude.{ℕ, Bool, true, false, List, [], ◌∷◌, ◌++◌, length, map, flat_map, codes, decimal}
 use Rattle.std.specs.List.{enumerate_from, join_with_byte}
-use Rattle.mm_collect.specs.declared.program.Op.{Op}
-use Rattle.mm_collect.specs.declared.program.Op.TheVariants.{Add, Sub, Mul, Div, Rem, Eq, Lt}
-use Rattle.mm_collect.specs.declared.program.Arm.{Arm}
+use Rattle.mm_program.specs.declared.program.Op.{Op}
+use Rattle.mm_program.specs.declared.program.Op.TheVariants.{Add, Sub, Mul, Div, Rem, Eq, Lt}
+use Rattle.mm_program.specs.declared.program.Arm.{Arm}
 use Rattle.mm_objects.specs.declared.objects.Objects.{Objects}
 use Rattle.mm_objects.specs.declared.objects.ObjUnit.{ObjUnit}
 use Rattle.mm_objects.specs.declared.objects.ObjDef.{ObjDef}

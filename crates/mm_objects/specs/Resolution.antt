@@ -1,13 +1,15 @@
 -- What a reference names: which definition a symbol stands for in a unit.
-use Rattle.std.specs.Prelude.{ℕ, ◌==◌, ◌&&◌, Bool, true, false, List, map, flat_map, Option}
+use Rattle.std.specs.Prelude.{ℕ, ◌==◌, ◌&&◌, Bool, true, false, List, [], map, flat_map, slice_get, Option, None, Some}
 use Rattle.std.specs.List.{enumerate_from, find}
-use Rattle.std.specs.Option.{option_or}
+use Rattle.std.specs.Option.{option_map, option_or}
 use Rattle.std.specs.Str.{bytes_eq}
 use Rattle.mm_objects.specs.declared.objects.Linkage.{Linkage}
 use Rattle.mm_objects.specs.declared.objects.Linkage.TheVariants.{External, Internal}
+use Rattle.mm_objects.specs.declared.objects.ObjBlock.{ObjBlock}
 use Rattle.mm_objects.specs.declared.objects.ObjDef.{ObjDef}
 use Rattle.mm_objects.specs.declared.objects.ObjDef.TheVariants.{Code}
 use Rattle.mm_objects.specs.declared.objects.ObjUnit.{ObjUnit}
+use Rattle.mm_objects.specs.declared.target.Target.{Target}
 
 -- a definition and its place: the number of its unit, and its own among the definitions of the unit
 pub record Placed : Type 0 where
@@ -24,6 +26,10 @@ link_of (Code symbol link params locals blocks) = link
 abbrev pub is_external : Linkage → Bool
 is_external External = true
 is_external Internal = false
+
+-- the indices of a definition
+abbrev pub target_of : Placed → Target
+target_of one = record { unit = one.unit; def = one.number }
 
 -- the definitions of the unit with the number
 abbrev pub placed_in : ℕ × ObjUnit → List Placed
@@ -49,3 +55,26 @@ is_shared symbol one = is_external (link_of one.def) && defines symbol one
 -- External one; nothing where there is none. Where there are several, which a linker refuses, it is the first.
 unfoldable pub resolve : List ObjUnit → ℕ → List ℕ → Option Placed
 resolve units unit symbol = option_or (find (is_own unit symbol) (placed units)) (find (is_shared symbol) (placed units))
+
+-- the first definition of the symbol to which every unit may refer
+abbrev pub shared_in : List ObjUnit → List ℕ → Option Target
+shared_in units symbol = option_map target_of (find (is_shared symbol) (placed units))
+
+-- what a reference names, by its target
+abbrev pub find_in : List ObjUnit → ℕ → List ℕ → Option Target
+find_in units unit symbol = option_map target_of (resolve units unit symbol)
+
+-- ---- targets
+
+-- the definition at a target, where there is one
+abbrev pub def_in : ℕ → Option ObjUnit → Option ObjDef
+def_in n None = None
+def_in n (Some u) = slice_get u.defs n
+
+abbrev pub def_at : List ObjUnit → Target → Option ObjDef
+def_at us t = def_in t.def (slice_get us t.unit)
+
+-- the blocks of a definition. One that is not there has none
+abbrev pub def_blocks : Option ObjDef → List ObjBlock
+def_blocks None = []
+def_blocks (Some (Code symbol link params locals blocks)) = blocks

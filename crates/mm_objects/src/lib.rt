@@ -11,6 +11,7 @@ mod pieces;
 mod progress;
 mod reading;
 mod steps;
+mod target;
 mod unit_name;
 mod words;
 mod writing;
@@ -21,6 +22,7 @@ pub use objects::{
     ObjRvalue, ObjUnit, Objects,
 };
 pub use reading::read_objects;
+pub use target::{Clash, Linked, Target, VtableId};
 pub use writing::write_objects;
 
 #[cfg(test)]

@@ -4,12 +4,13 @@ ghost use Rattle.mm_objects.specs.LineReading.{all_in, operand_in, arm_in, one_o
 ghost use Rattle.mm_objects.specs.Given.{Gives};
 
 use crate::line_error::LineError;
-use crate::number::{number, number_below};
+use crate::number::number_below;
 use crate::objects::{Linkage, ObjEnd, ObjInstr, ObjOperand, ObjRvalue};
 use crate::pieces::{both, last_two, next, only};
 use crate::progress::Header;
 use crate::words::{behind, callee, cut, is, linkage, operand, operation, place, symbol};
-use mm_collect::{Arm, Op};
+use mm_lex::decimal;
+use mm_program::{Arm, Op};
 use mm_terms::Text;
 use sqlite_items::Items;
 use std::alloc::Global;
@@ -91,14 +92,14 @@ fn listed<'a, 'b>(mark: &[u8], blocks: u64, words: &'b [&'a [u8]]) -> Option<(&'
     Some((list, number_below(label, blocks)?))
 }
 
-/// A number and the block for it, parted by a colon.
+/// A number and the block for it, separated by a colon.
 #[tactic(auto, unfolding(crate::specs::LineReading::arm_in))]
 fn arm(alloc: Global, blocks: u64, word: &[u8]) -> Result<Arm, LineError>
     ensures { Gives result (arm_in blocks word.now) }
 {
     let parts = cut(alloc, word, b':')?;
     let (first, second) = both(&parts).ok_or(LineError::Unfit)?;
-    let number = number(first, u64::MAX).ok_or(LineError::Unfit)?;
+    let number = decimal(first, u64::MAX).ok_or(LineError::Unfit)?;
     let label = number_below(second, blocks).ok_or(LineError::Unfit)?;
     Ok(Arm { number, label })
 }
@@ -194,10 +195,10 @@ fn counts(symbol: Text, link: Linkage, words: &[&[u8]]) -> Option<Header>
     ensures { result ≡ counts_in symbol link (map (λ w. w.now) words.now) }
 {
     let (params, others) = next(words)?;
-    let params = number(params, 65_535)?;
+    let params = decimal(params, 65_535)?;
     let (locals, blocks) = both(others)?;
-    let locals = number(locals, 65_536)?;
-    let blocks = number(blocks, u64::MAX)?;
+    let locals = decimal(locals, 65_536)?;
+    let blocks = decimal(blocks, u64::MAX)?;
     if params < locals && 0 < blocks {
         return Some(Header {
             symbol,
@@ -228,7 +229,7 @@ pub fn label(number_of: u64, words: &[&[u8]]) -> Option<u64>
     ensures { result ≡ label_in number_of (map (λ w. w.now) words.now) }
 {
     let digits = behind(b"bb", only(words)?)?;
-    let found = number(digits, u64::MAX)?;
+    let found = decimal(digits, u64::MAX)?;
     if found == number_of {
         Some(found)
     } else {

@@ -1,4 +1,4 @@
-use mm_collect::{Arm, Op};
+use mm_program::{Arm, Op};
 use mm_terms::Text;
 use sqlite_items::Items;
 
@@ -6,7 +6,7 @@ use sqlite_items::Items;
 ///
 /// That labels, locals and references name something is not asked here: `AreObjects` of this crate's definitions says
 /// which objects have a text, and `Resolve` what a reference names.
-#[derive(Debug, Drop)]
+#[derive(Drop)]
 pub struct Objects {
     /// The symbol of the function that a run begins with.
     pub main: Text,
@@ -14,7 +14,7 @@ pub struct Objects {
 }
 
 /// Definitions that are compiled together.
-#[derive(Debug, Drop)]
+#[derive(Drop)]
 pub struct ObjUnit {
     /// The compiling crate and the unit's own name, as in `app/app.stable`.
     pub name: Text,
@@ -22,7 +22,7 @@ pub struct ObjUnit {
 }
 
 /// A definition of a unit.
-#[derive(Debug, Drop)]
+#[derive(Drop)]
 pub enum ObjDef {
     /// A function.
     Code {
@@ -38,7 +38,7 @@ pub enum ObjDef {
 }
 
 /// Who may refer to a definition.
-#[derive(Clone, Copy, Debug, PartialEq, Eq, Hash)]
+#[derive(Clone, Copy)]
 pub enum Linkage {
     /// Every unit that has no definition of the symbol itself.
     External,
@@ -47,7 +47,7 @@ pub enum Linkage {
 }
 
 /// A block of a body.
-#[derive(Debug, Drop)]
+#[derive(Drop)]
 pub struct ObjBlock {
     /// What is done first, in order.
     pub instrs: Items<ObjInstr>,
@@ -56,7 +56,7 @@ pub struct ObjBlock {
 }
 
 /// A step of a block before its end.
-#[derive(Clone, Copy, Debug, PartialEq, Eq, Hash)]
+#[derive(Clone, Copy)]
 pub enum ObjInstr {
     /// Makes a value, and then writes it into a place.
     Set(ObjPlace, ObjRvalue),
@@ -65,20 +65,20 @@ pub enum ObjInstr {
 }
 
 /// Where a value is kept.
-#[derive(Clone, Copy, Debug, PartialEq, Eq, Hash)]
+#[derive(Clone, Copy)]
 pub struct ObjPlace {
     pub base: ObjBase,
 }
 
 /// Where a place begins.
-#[derive(Clone, Copy, Debug, PartialEq, Eq, Hash)]
+#[derive(Clone, Copy)]
 pub enum ObjBase {
     /// A local of the function: 0 is the result.
     Local(u32),
 }
 
 /// How a value is made. Operands are read from left to right.
-#[derive(Clone, Copy, Debug, PartialEq, Eq, Hash)]
+#[derive(Clone, Copy)]
 pub enum ObjRvalue {
     /// The value of an operand as it is.
     Use(ObjOperand),
@@ -88,7 +88,7 @@ pub enum ObjRvalue {
 }
 
 /// A value that is read.
-#[derive(Clone, Copy, Debug, PartialEq, Eq, Hash)]
+#[derive(Clone, Copy)]
 pub enum ObjOperand {
     /// The value of a place, which keeps it.
     Copy(ObjPlace),
@@ -99,7 +99,7 @@ pub enum ObjOperand {
 }
 
 /// The end of a block.
-#[derive(Debug, Drop)]
+#[derive(Drop)]
 pub enum ObjEnd {
     /// Goes back to the caller with what the result's local has.
     Return,
@@ -115,7 +115,7 @@ pub enum ObjEnd {
 }
 
 /// What is called.
-#[derive(Debug, Drop)]
+#[derive(Drop)]
 pub enum ObjCallee {
     /// The function that a symbol names.
     Fn(Text),

@@ -46,7 +46,7 @@ pub fn named<'a>(key: &[u8], words: &[&'a [u8]]) -> Option<&'a [u8]>
 pub fn last_two<'a, 'b>(words: &'b [&'a [u8]]) -> Option<(&'b [&'a [u8]], &'a [u8], &'a [u8])>
     ensures { option_map (λ p. (map (λ w. w.now) p.0.now, p.1.now, p.2.now)) result ≡ last_two (map (λ w. w.now) words.now) }
 {
-    let (last, front) = words.split_last()?;
-    let (mark, front) = front.split_last()?;
-    Some((front, *mark, *last))
+    let (last, prefix) = words.split_last()?;
+    let (mark, prefix) = prefix.split_last()?;
+    Some((prefix, *mark, *last))
 }

@@ -6,7 +6,7 @@ use mm_terms::{NoMemory, Text};
 use sqlite_items::Items;
 
 /// The first line of a function.
-#[derive(Debug, Drop)]
+#[derive(Drop)]
 pub struct Header {
     pub symbol: Text,
     pub link: Linkage,
@@ -17,7 +17,7 @@ pub struct Header {
 }
 
 /// A unit of which more definitions may come.
-#[derive(Debug, Drop)]
+#[derive(Drop)]
 pub struct OpenUnit {
     /// The symbol of the main function.
     pub main: Text,
@@ -29,7 +29,7 @@ pub struct OpenUnit {
 }
 
 /// A function of which more blocks come.
-#[derive(Debug, Drop)]
+#[derive(Drop)]
 pub struct OpenCode {
     pub unit: OpenUnit,
     pub header: Header,
@@ -37,8 +37,8 @@ pub struct OpenCode {
     pub blocks: Items<ObjBlock>,
 }
 
-/// What the lines of an object text have told so far.
-#[derive(Debug, Drop)]
+/// What the lines of an object text have reported so far.
+#[derive(Drop)]
 pub enum Progress {
     /// Nothing: no line was read.
     Start,

@@ -93,7 +93,7 @@ fn read(alloc: Global, several: bool, bytes: &[u8]) -> Result<Objects, ObjFault>
 
 /// The objects whose text the bytes are: object text with one unit.
 ///
-/// Object text is this project's own. Its lines end with LF, words are parted by one blank, and numbers have no leading zero.
+/// Object text is this project's own. Its lines end with LF, words are separated by one blank, and numbers have no leading zero.
 pub fn read_objects(alloc: Global, bytes: &[u8]) -> Result<Objects, ObjFault>
     ensures ok { IfOk result (λ objects. IsUnitText bytes.now objects) }
     ensures bad { (line : ℕ) → result ≡ Err (ObjFault.BadObjects line) → IsBadAt line bytes.now }

@@ -7,9 +7,10 @@ ghost use Rattle.mm_objects.specs.LineReading.{is_form_of_code, is_code_symbol, 
 ghost use Rattle.mm_objects.specs.Given.{Gives};
 
 use crate::line_error::LineError;
-use crate::number::{number, number_below};
+use crate::number::number_below;
 use crate::objects::{Linkage, ObjBase, ObjCallee, ObjOperand, ObjPlace};
-use mm_collect::Op;
+use mm_lex::decimal;
+use mm_program::Op;
 use mm_symbols::{SymItem, SymbolForm, read_symbol};
 use mm_terms::Text;
 use std::alloc::{AllocError, Global};
@@ -21,11 +22,11 @@ pub fn is(word: &[u8], other: &[u8]) -> bool
     word == other
 }
 
-/// What stands behind a front of a word.
-pub fn behind<'a>(front: &[u8], word: &'a [u8]) -> Option<&'a [u8]>
-    ensures { option_map (λ x. x.now) result ≡ behind front.now word.now }
+/// What stands behind a prefix of a word.
+pub fn behind<'a>(prefix: &[u8], word: &'a [u8]) -> Option<&'a [u8]>
+    ensures { option_map (λ x. x.now) result ≡ behind prefix.now word.now }
 {
-    word.strip_prefix(front)
+    word.strip_prefix(prefix)
 }
 
 /// `_` and the number of a local.
@@ -73,7 +74,7 @@ fn truth(word: &[u8]) -> Option<ObjOperand>
 fn literal(word: &[u8]) -> Option<ObjOperand>
     ensures { result ≡ literal_in word.now }
 {
-    Some(ObjOperand::Num(number(word, u64::MAX)?))
+    Some(ObjOperand::Num(decimal(word, u64::MAX)?))
 }
 
 /// A place with `copy:` or `move:`, a truth value or a number.

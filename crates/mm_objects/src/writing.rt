@@ -8,7 +8,7 @@ use crate::objects::{
     ObjRvalue, ObjUnit, Objects,
 };
 use itoa::Buffer;
-use mm_collect::{Arm, Op};
+use mm_program::{Arm, Op};
 use mm_terms::NoMemory;
 use std::alloc::Global;
 

@@ -1,8 +1,8 @@
 -- One step of a run.
 use Rattle.std.specs.Prelude.{◌≡◌, ℕ, suc, ◌+◌, ◌-◌, ◌<◌}
 use Rattle.std.proofs.Common.{ap, arith}
-use Rattle.mm_machines.specs.declared.target.Target.{Target}
-use Rattle.mm_machines.specs.declared.target.VtableId.{VtableId}
+use Rattle.mm_objects.specs.declared.target.Target.{Target}
+use Rattle.mm_objects.specs.declared.target.VtableId.{VtableId}
 use Rattle.mm_machines.specs.Forms.{State}
 use Rattle.mm_machines.specs.Runs.{Code, after, run, step}
 

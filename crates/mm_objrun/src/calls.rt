@@ -1,29 +1,30 @@
 ghost use Rattle.std.specs.Prelude.{◌≡◌, ◌+◌, ◌-◌, ◌<◌, IfOk, OnOk, length, map, option_copied};
-ghost use Rattle.mm_machines.specs.Answers.{blocks_of};
-ghost use Rattle.mm_machines.specs.Forms.{call as calling, return as returning, Shape, entered, handed, handed_back, locals_for, started};
-ghost use Rattle.mm_machines.specs.Image.{call_found, def_at as def_there, def_shape, image_call, image_operand, image_place};
-ghost use Rattle.mm_machines.specs.Memory.{whole_block, with_locals};
-ghost use Rattle.mm_machines.specs.declared.target.Target.{Target};
-ghost use Rattle.mm_machines.specs.declared.target.VtableId.{VtableId};
-ghost use Rattle.mm_objrun.specs.Steps.{Hands, Steps, Leads, Writes, handed_of, set_up, state_of};
+ghost use Rattle.mm_machines.specs.Answers.{allocations_of};
+ghost use Rattle.mm_machines.specs.Forms.{call as calling, return as returning, Shape, entered, evaluated_call, returned_result, locals_for, started};
+ghost use Rattle.mm_machines.specs.Image.{call_found, def_shape, image_call, image_operand, image_place};
+ghost use Rattle.mm_objects.specs.Resolution.{def_at as def_there};
+ghost use Rattle.mm_machines.specs.Memory.{whole_allocation, with_locals};
+ghost use Rattle.mm_objects.specs.declared.target.Target.{Target};
+ghost use Rattle.mm_objects.specs.declared.target.VtableId.{VtableId};
+ghost use Rattle.mm_objrun.specs.Steps.{EvaluatesCall, Steps, Continues, Writes, evaluated_call_of, set_up, state_of};
 
-use crate::cells::Cell;
-use crate::machine::{Handing, Machine, Waiting};
-use crate::operands::{Cells, find, operands};
+use crate::machine::{CallArgs, Machine, SuspendedFrame};
+use crate::operands::{RunMemory, find, operands};
+use crate::values::RunValue;
 use mm_link::Image;
-use mm_machines::{BlockKind, Ended, Frame, Halt, Target, Trap, Value, Window};
-use mm_objects::{ObjCallee, ObjDef, ObjOperand, ObjPlace, ObjUnit};
+use mm_machines::{BlockKind, Ended, Frame, Halt, LocalRange, Trap, Value};
+use mm_objects::{ObjCallee, ObjDef, ObjOperand, ObjPlace, ObjUnit, Target};
 use mm_terms::NoMemory;
 use std::alloc::Global;
 
 /// How many parameters and locals a function has.
-#[derive(Clone, Copy, Debug, PartialEq, Eq)]
+#[derive(Clone, Copy)]
 pub struct Counts {
     pub params: u32,
     pub locals: u32,
 }
 
-/// The definition at a place.
+/// The definition with a unit's and its own index.
 pub fn def_at(units: &[ObjUnit], t: Target) -> Option<&ObjDef>
     ensures { option_copied result ≡ def_there units.now t }
 {
@@ -33,7 +34,7 @@ pub fn def_at(units: &[ObjUnit], t: Target) -> Option<&ObjDef>
     }
 }
 
-/// The parameters and locals of the definition at a place.
+/// The parameters and locals of the definition with a unit's and its own index.
 pub fn counts_at(units: &[ObjUnit], t: Target) -> Counts
     ensures params { result.params ≡ (def_shape (def_there units.now t)).params }
     ensures locals { result.locals ≡ (def_shape (def_there units.now t)).locals }
@@ -51,52 +52,47 @@ pub fn counts_at(units: &[ObjUnit], t: Target) -> Counts
 }
 
 /// The operands of a call, and then where its result goes.
-fn hand(
+fn evaluate_call(
     alloc: Global,
     frame: &Frame<Target>,
-    memory: &mut Cells,
+    memory: &mut RunMemory,
     os: &[ObjOperand],
     place: ObjPlace,
-) -> Result<Handing, Halt>
-    ensures { Hands result (blocks_of Target VtableId memory.new) (handed Target VtableId (map (image_operand frame.now.function) os.now) (image_place frame.now.function place) frame.now.locals (blocks_of Target VtableId memory.old)) }
+) -> Result<CallArgs, Halt>
+    ensures { EvaluatesCall result (allocations_of Target VtableId memory.new) (evaluated_call Target VtableId (map (image_operand frame.now.function) os.now) (image_place frame.now.function place) frame.now.locals (allocations_of Target VtableId memory.old)) }
 {
     let values = operands(alloc, frame, memory, os)?;
     let dest = find(frame, memory, place)?;
-    Ok(Handing { values, dest })
+    Ok(CallArgs { values, dest })
 }
 
 /// Takes the value of the result as it is, frees the locals, and writes the value where the caller wants it.
-fn hand_back(alloc: Global, locals: Window, memory: &mut Cells, dest: u64) -> Result<(), Halt>
-    ensures { Writes result (blocks_of Target VtableId memory.new) (handed_back Target VtableId locals (whole_block dest) (blocks_of Target VtableId memory.old)) }
+fn return_result(
+    alloc: Global,
+    locals: LocalRange,
+    memory: &mut RunMemory,
+    dest: u64,
+) -> Result<(), Halt>
+    ensures { Writes result (allocations_of Target VtableId memory.new) (returned_result Target VtableId locals (whole_allocation dest) (allocations_of Target VtableId memory.old)) }
 {
     if locals.count == 0 {
         return Err(Halt::Trap(Trap::Dangling));
     }
-    let v = match memory.read(locals.first) {
-        Err(trap) => return Err(Halt::Trap(trap)),
-        Ok(v) => match v.duplicate(alloc) {
-            Err(_) => return Err(Halt::NoMemory),
-            Ok(copy) => copy,
-        },
-    };
-    if memory.free_locals(locals).is_err() {
-        return Err(Halt::NoMemory);
-    }
-    match memory.write(dest, v) {
-        Ok(()) => Ok(()),
-        Err(trap) => Err(Halt::Trap(trap)),
-    }
+    let v = memory.read(locals.first)?.duplicate(alloc)?;
+    memory.free_locals(locals)?;
+    memory.write(dest, v)?;
+    Ok(())
 }
 
 /// Makes the locals of a function: the result, the arguments, and so many others.
 fn make_frame(
-    memory: &mut Cells,
+    memory: &mut RunMemory,
     function: Target,
-    values: Vec<Cell>,
+    values: Vec<RunValue>,
     more: u64,
 ) -> Result<Frame<Target>, NoMemory>
-    ensures frame { IfOk result (λ f. f ≡ started Target VtableId function (length (set_up values.items more)) (blocks_of Target VtableId memory.old)) }
-    ensures made { OnOk result (blocks_of Target VtableId memory.new ≡ with_locals Target VtableId (set_up values.items more) (blocks_of Target VtableId memory.old)) }
+    ensures frame { IfOk result (λ f. f ≡ started Target VtableId function (length (set_up values.items more)) (allocations_of Target VtableId memory.old)) }
+    ensures made { OnOk result (allocations_of Target VtableId memory.new ≡ with_locals Target VtableId (set_up values.items more) (allocations_of Target VtableId memory.old)) }
 {
     let Some(count) = (values.len() as u64).checked_add(1) else {
         return Err(NoMemory);
@@ -111,7 +107,7 @@ fn make_frame(
         function,
         block: 0,
         index: 0,
-        locals: Window { first, count },
+        locals: LocalRange { first, count },
     })
 }
 
@@ -121,11 +117,11 @@ impl Machine {
         &mut self,
         function: Target,
         counts: Counts,
-        h: Handing,
+        h: CallArgs,
         label: u32,
     ) -> Result<(), NoMemory>
         ensures { (shape : Shape) → counts.params ≡ shape.params → counts.locals ≡ shape.locals →
-            OnOk result (state_of self.new ≡ entered Target VtableId function (locals_for Target VtableId shape h.values.items) label (handed_of h (blocks_of Target VtableId self.old.memory)) (state_of self.old)) }
+            OnOk result (state_of self.new ≡ entered Target VtableId function (locals_for Target VtableId shape h.values.items) label (evaluated_call_of h (allocations_of Target VtableId self.old.memory)) (state_of self.old)) }
     {
         let more = counts
             .locals
@@ -135,14 +131,14 @@ impl Machine {
         let mut caller = std::mem::replace(&mut self.top, frame);
         caller.block = label;
         caller.index = 0;
-        self.below.push(Waiting {
+        self.below.push(SuspendedFrame {
             frame: caller,
             dest: h.dest,
         })?;
         Ok(())
     }
 
-    /// Calls a function, where what it is handed fits.
+    /// Calls a function, where there are as many operands as parameters.
     fn call_at(
         &mut self,
         alloc: Global,
@@ -151,21 +147,16 @@ impl Machine {
         os: &[ObjOperand],
         place: ObjPlace,
         label: u32,
-    ) -> Result<Option<Ended>, NoMemory>
+    ) -> Result<Option<Ended>, Halt>
         ensures { Steps result (state_of self.new) (calling Target VtableId target (def_shape (def_there units.now target)) (map (image_operand self.old.top.function) os.now) (image_place self.old.top.function place) label (state_of self.old)) }
     {
         let counts = counts_at(units, target);
-        match hand(alloc, &self.top, &mut self.memory, os, place) {
-            Err(Halt::NoMemory) => Err(NoMemory),
-            Err(Halt::Trap(trap)) => Ok(Some(Ended::Trap(trap))),
-            Ok(h) => {
-                if h.values.len() != counts.params as usize {
-                    return Ok(Some(Ended::Trap(Trap::WrongArity)));
-                }
-                self.enter(target, counts, h, label)?;
-                Ok(None)
-            }
+        let args = evaluate_call(alloc, &self.top, &mut self.memory, os, place)?;
+        if args.values.len() != counts.params as usize {
+            return Err(Halt::Trap(Trap::WrongArity));
         }
+        self.enter(target, counts, args, label)?;
+        Ok(None)
     }
 
     /// Makes the step of a call.
@@ -177,12 +168,12 @@ impl Machine {
         os: &[ObjOperand],
         place: ObjPlace,
         label: u32,
-    ) -> Result<Option<Ended>, NoMemory>
+    ) -> Result<Option<Ended>, Halt>
         ensures { Steps result (state_of self.new) (image_call image.now.objects.units self.old.top.function callee.now (map (image_operand self.old.top.function) os.now) (image_place self.old.top.function place) label (state_of self.old)) }
     {
         let ObjCallee::Fn(symbol) = callee;
         match image.find(self.top.function.unit, symbol.as_slice()) {
-            None => Ok(Some(Ended::Trap(Trap::Dangling))),
+            None => Err(Halt::Trap(Trap::Dangling)),
             Some(target) => self.call_at(
                 alloc,
                 image.objects().units.as_slice(),
@@ -195,19 +186,14 @@ impl Machine {
     }
 
     /// Makes the step of a return.
-    pub fn leave(&mut self, alloc: Global) -> Result<Option<Ended>, NoMemory>
+    pub fn leave(&mut self, alloc: Global) -> Result<Option<Ended>, Halt>
         ensures { Steps result (state_of self.new) (returning Target VtableId (state_of self.old)) }
     {
-        let Some(waiting) = self.below.pop() else {
+        let Some(suspended) = self.below.pop() else {
             return Ok(Some(Ended::Returned));
         };
-        match hand_back(alloc, self.top.locals, &mut self.memory, waiting.dest) {
-            Err(Halt::NoMemory) => Err(NoMemory),
-            Err(Halt::Trap(trap)) => Ok(Some(Ended::Trap(trap))),
-            Ok(()) => {
-                self.top = waiting.frame;
-                Ok(None)
-            }
-        }
+        return_result(alloc, self.top.locals, &mut self.memory, suspended.dest)?;
+        self.top = suspended.frame;
+        Ok(None)
     }
 }

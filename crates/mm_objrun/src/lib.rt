@@ -2,12 +2,12 @@
 #![tactic(auto)]
 
 mod calls;
-mod cells;
 mod machine;
 mod operands;
 mod run;
 mod statements;
 mod step;
+mod values;
 
 pub use run::run_image;
 

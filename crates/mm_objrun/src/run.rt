@@ -1,15 +1,16 @@
 ghost use Rattle.std.specs.Prelude.{◌≡◌, IfOk};
-ghost use Rattle.mm_machines.specs.Image.{def_at as def_there, def_shape, observed_image};
+ghost use Rattle.mm_machines.specs.Image.{def_shape, observed_image};
+ghost use Rattle.mm_objects.specs.Resolution.{def_at as def_there};
 ghost use Rattle.mm_machines.specs.Runs.{first as first_state};
-ghost use Rattle.mm_machines.specs.declared.target.Target.{Target};
-ghost use Rattle.mm_machines.specs.declared.target.VtableId.{VtableId};
+ghost use Rattle.mm_objects.specs.declared.target.Target.{Target};
+ghost use Rattle.mm_objects.specs.declared.target.VtableId.{VtableId};
 ghost use Rattle.mm_objrun.specs.Steps.{state_of};
 
 use crate::calls::counts_at;
 use crate::machine::Machine;
 use mm_link::Image;
-use mm_machines::{Ended, Frame, Memory, Obs, Target, Window};
-use mm_objects::ObjUnit;
+use mm_machines::{Ended, Frame, LocalRange, Memory, Obs};
+use mm_objects::{ObjUnit, Target};
 use mm_terms::NoMemory;
 use sqlite_items::Items;
 use std::alloc::Global;
@@ -25,7 +26,7 @@ fn start(alloc: Global, units: &[ObjUnit], main: Target) -> Result<Machine, NoMe
         function: main,
         block: 0,
         index: 0,
-        locals: Window { first: 0, count },
+        locals: LocalRange { first: 0, count },
     };
     Ok(Machine {
         top,
@@ -42,12 +43,9 @@ pub fn run_image(alloc: Global, image: &Image, steps: u32) -> Result<Obs, NoMemo
 {
     let mut machine = start(alloc, image.objects().units.as_slice(), image.main())?;
     for i in 0..steps {
-        match machine.step(alloc, image)? {
-            Some(ended) => {
-                let printed = Items::from_vec(machine.printed);
-                return Ok(Obs { printed, ended });
-            }
-            None => {}
+        if let Some(ended) = machine.step(alloc, image)? {
+            let printed = Items::from_vec(machine.printed);
+            return Ok(Obs { printed, ended });
         }
     }
     let printed = Items::from_vec(machine.printed);

@@ -17,6 +17,6 @@ GaveMore limit old new = (given : List ℕ) × (length given ≡ limit + 1) × C
 abbrev pub GaveWithin : ℕ → Option (List ℕ) → Option (List ℕ) → Type 0
 GaveWithin limit old new = (given : List ℕ) × (length given ≤ limit) × Consumes old new given
 
--- a front of the bytes was written
-abbrev pub WritesFront : Option (List ℕ) → Option (List ℕ) → List ℕ → Type 0
-WritesFront old new bytes = (front : List ℕ) × (rest : List ℕ) × (bytes ≡ front ++ rest) × Appends old new front
+-- a prefix of the bytes was written
+abbrev pub WritesPrefix : Option (List ℕ) → Option (List ℕ) → List ℕ → Type 0
+WritesPrefix old new bytes = (prefix : List ℕ) × (rest : List ℕ) × (bytes ≡ prefix ++ rest) × Appends old new prefix

@@ -2,13 +2,13 @@ ghost use Rattle.std.specs.Prelude.{◌≡◌, ◌<◌, None, length, take, IfOk
 ghost use Rattle.std.specs.Io.{ReadsAtMost, WritesAtMost};
 ghost use Rattle.std.specs.Io.KnownBytes.{Appends, ReadConsumes, WriteAppends};
 ghost use Rattle.mm_outside.specs.Causes.{HasCause, one_more};
-ghost use Rattle.mm_outside.specs.Whole.{WritesFront};
+ghost use Rattle.mm_outside.specs.Whole.{WritesPrefix};
 
 use crate::{Failed, Sink, Source};
 use std::io::{self, ErrorKind, Read, Write};
 
-/// A reader of std as a source. As a source it tells no content: that the reader gives what it is thought to give is
-/// not proved.
+/// A reader of std as a source. As a source its bytes are unknown: that the reader gives the bytes of a file or a
+/// device is not proved.
 #[derive(Debug, Drop)]
 pub struct StdSource<R> {
     reader: R,
@@ -55,8 +55,8 @@ impl<R: Read> Source for StdSource<R> {
     }
 }
 
-/// A writer of std as a sink. As a sink it tells no content: that the writer keeps what it took is not proved. Each
-/// write is flushed, and counts as failed where the flush fails or the writer takes no byte.
+/// A writer of std as a sink. As a sink its bytes are unknown: that the writer keeps what it took is not proved. Each
+/// write is flushed, and counts as failed where the flush fails or the writer takes no byte. No clause sees the flush.
 #[derive(Debug, Drop)]
 pub struct StdSink<W> {
     writer: W,
@@ -92,8 +92,8 @@ impl<W: Write> Sink for StdSink<W> {
         // It hands on the bytes. Where the flush fails, the writer has taken some of them.
         ensures taken { IfOk result (λ n.
             Appends (W.contents (writer_of self.old)) (W.contents (writer_of self.new)) (take n piece.now)) }
-        ensures front { OnErr result
-            (WritesFront (W.contents (writer_of self.old)) (W.contents (writer_of self.new)) piece.now) }
+        ensures prefix { OnErr result
+            (WritesPrefix (W.contents (writer_of self.old)) (W.contents (writer_of self.new)) piece.now) }
         ensures passed { OnOk result (writer_faults self.new ≡ writer_faults self.old) }
         ensures failed { OnErr result (writer_faults self.new ≡ one_more (writer_faults self.old)) }
     {
@@ -107,12 +107,12 @@ impl<W: Write> Sink for StdSink<W> {
     }
 }
 
-/// Writes a front of the piece, at least one byte, and flushes it.
+/// Writes a prefix of the piece, at least one byte, and flushes it.
 fn write_flushed<W: Write>(writer: &mut W, piece: &[u8]) -> io::Result<usize>
     ensures some { IfOk result (λ n. 0 < n) }
     ensures bound { WritesAtMost result piece.now }
     ensures taken { IfOk result (λ n. Appends (W.contents writer.old) (W.contents writer.new) (take n piece.now)) }
-    ensures front { OnErr result (WritesFront (W.contents writer.old) (W.contents writer.new) piece.now) }
+    ensures prefix { OnErr result (WritesPrefix (W.contents writer.old) (W.contents writer.new) piece.now) }
 {
     let count = writer.write(piece)?;
     if count == 0 {

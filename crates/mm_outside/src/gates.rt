@@ -5,7 +5,7 @@ pub trait Gate: Sync {
     /// begun before.
     fn pass(&self, worker: u32, scan: u32);
 
-    /// A worker that makes objects calls this before each unit: with its number, from 0, and the unit's place.
+    /// A worker that makes objects calls this before each unit: with its number, from 0, and the unit's index.
     fn unit(&self, worker: u32, unit: u32);
 }
 

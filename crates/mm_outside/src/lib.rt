@@ -1,7 +1,7 @@
 //! The outside of the program: where bytes come from, where they go, and the gate that a worker passes.
 //!
 //! A [`Source`] and a [`Sink`] count their failures, so that a caller can say of each answer of failure that a call
-//! failed. [`BytesSource`] and [`BytesSink`] stand in memory and fail where they are told to; [`StdSource`] and
+//! failed. [`BytesSource`] and [`BytesSink`] stand in memory and fail at chosen calls; [`StdSource`] and
 //! [`StdSink`] stand over std's readers and writers. [`read_all`] and [`put_all`] go over whole texts.
 #![tactic(auto)]
 

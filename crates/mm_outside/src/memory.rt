@@ -9,7 +9,7 @@ use crate::{Failed, NoMemory, Sink, Source};
 use std::alloc::Global;
 use std::marker::Model;
 
-/// Bytes in memory as a source that fails where it is told to.
+/// Bytes in memory as a source that fails at chosen calls.
 #[derive(Debug, Drop)]
 pub struct BytesSource {
     bytes: Vec<u8>,
@@ -77,7 +77,7 @@ impl Source for BytesSource {
     }
 }
 
-/// A sink in memory that has room for some bytes and fails where it is told to.
+/// A sink in memory that has room for some bytes and fails at chosen calls.
 #[derive(Debug, Drop)]
 pub struct BytesSink {
     written: Vec<u8>,

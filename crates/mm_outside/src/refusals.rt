@@ -1,13 +1,13 @@
 ghost use Rattle.std.specs.Prelude.{◌≡◌};
-ghost use Rattle.mm_outside.specs.declared.refusals.ReadRefusal.TheVariants.{NoMemory as OutOfMemory};
+ghost use Rattle.mm_outside.specs.declared.refusals.ReadRefusal.TheVariants.{NoMemory as OutOfMemory, ReadFault};
 
 use std::error::Error;
 use std::fmt;
 
-/// Memory was not found: std's error of an allocation, under this project's name.
+/// Out of memory: std's error of an allocation, under this project's name.
 pub use std::alloc::AllocError as NoMemory;
 
-/// A call of a source or a sink failed, and its count of failures rose.
+/// A call of a source or a sink failed, and its count of failures rose by one.
 #[derive(Clone, Copy, Debug, PartialEq, Eq, Hash)]
 pub struct Failed;
 
@@ -26,7 +26,7 @@ pub enum ReadRefusal {
     ReadFault,
     /// The source gave one byte more than the limit.
     TooLong,
-    /// Memory was not found.
+    /// Out of memory.
     NoMemory,
 }
 
@@ -41,6 +41,14 @@ impl fmt::Display for ReadRefusal {
 }
 
 impl Error for ReadRefusal {}
+
+impl From<Failed> for ReadRefusal {
+    ghost from_gives = { λ _ refusal. refusal ≡ ReadFault };
+
+    fn from(_: Failed) -> Self {
+        ReadRefusal::ReadFault
+    }
+}
 
 impl From<NoMemory> for ReadRefusal {
     ghost from_gives = { λ _ refusal. refusal ≡ OutOfMemory };

@@ -8,15 +8,15 @@ use crate::Failed;
 
 /// Where bytes come from.
 pub trait Source {
-    /// The bytes still to come, where the source tells them.
+    /// The bytes still to come, where they are known.
     ghost left: { Self → Option (List ℕ) };
 
-    /// How often a call has failed, up to the greatest `u64`. It never falls, and rises with each call that fails; at
-    /// the greatest `u64` it stands still, and counts as risen.
+    /// How often a call has failed, up to the greatest `u64`. It rises by one with each call that fails, and stays as
+    /// it was with each that succeeds; at the greatest `u64` it stands still, and counts as risen.
     ghost faults: { Self → ℕ };
 
-    /// Puts the next bytes at the front of `buf` and answers how many they are. 0 is the end: where the source tells
-    /// its bytes, none is left. A call that failed took no byte.
+    /// Puts the next bytes at the start of `buf` and answers how many they are. 0 is the end: where the bytes are
+    /// known, none is left. A call that failed took no byte.
     fn read(&mut self, buf: &mut [u8]) -> Result<usize, Failed>
         requires { 0 < length buf.old }
         ensures bound { ReadsAtMost result buf.new }
@@ -26,14 +26,14 @@ pub trait Source {
 
 /// Where bytes go.
 pub trait Sink {
-    /// The bytes written so far, where the sink tells them.
+    /// The bytes written so far, where they are known.
     ghost written: { Self → Option (List ℕ) };
 
-    /// How often a call has failed, up to the greatest `u64`. It never falls, and rises with each call that fails; at
-    /// the greatest `u64` it stands still, and counts as risen.
+    /// How often a call has failed, up to the greatest `u64`. It rises by one with each call that fails, and stays as
+    /// it was with each that succeeds; at the greatest `u64` it stands still, and counts as risen.
     ghost faults: { Self → ℕ };
 
-    /// Writes a front of the piece, at least one byte, and answers how many bytes it is. A call that failed wrote none.
+    /// Writes a prefix of the piece, at least one byte, and answers how many bytes it is. A call that failed wrote none.
     fn write(&mut self, piece: &[u8]) -> Result<usize, Failed>
         requires { 0 < length piece.now }
         ensures some { IfOk result (λ n. 0 < n) }

@@ -4,7 +4,7 @@ use Rattle.mm_lex.specs.declared.token.Token.{Token}
 use Rattle.mm_lex.specs.declared.token.TokenKind.TheVariants as kinds
 use Rattle.mm_lex.specs.declared.word.Word.{Word}
 use Rattle.mm_lex.specs.declared.word.Word.TheVariants as words
-use Rattle.mm_lex.specs.declared.mark.Mark.TheVariants as marks
+use Rattle.mm_lex.specs.declared.punct.Punct.TheVariants as puncts
 use Rattle.mm_parse.specs.declared.ast.Type as written
 use Rattle.mm_parse.specs.declared.ast.End.{End}
 use Rattle.mm_parse.specs.declared.ast.End.TheVariants as ends
@@ -17,9 +17,11 @@ use Rattle.mm_parse.specs.declared.ast.Local.{Local}
 use Rattle.mm_parse.specs.declared.ast.Operand.{Operand}
 use Rattle.mm_parse.specs.Language.{◌⋅◌, each}
 use Rattle.mm_parse.specs.Grammar.{word, label, arm, switch, call, end}
-use Rattle.mm_parse.specs.Parsing as parsing
-use Rattle.mm_parse.proofs.Readers.{Reads, Made, reads_part, reads_skip, reads_last, reads_last_skip, reads_either, reads_each, reads_same, reads_whole, reads_open, reads_made}
-use Rattle.mm_parse.proofs.TokenCodes.{code, kind_code, skips_word, skips_mark, starts_by, number_test}
+use Rattle.mm_parse.specs.TokenParsing as token_parsing
+use Rattle.mm_parse.specs.BodyParsing as body_parsing
+use Rattle.mm_parse.proofs.Readers.{Reads, reads_part, reads_skip, reads_either, reads_each, reads_same}
+use Rattle.mm_parse.proofs.RepeatReads.{Made, reads_last, reads_last_skip, reads_whole, reads_open, reads_made}
+use Rattle.mm_parse.proofs.TokenCodes.{code, kind_code, skips_word, skips_punct, starts_by, number_test}
 use Rattle.mm_parse.proofs.TokenReads.{Open, reads_number, reads_local, reads_label}
 use Rattle.mm_parse.proofs.TypeReads.{word_codes, starts_word, reads_args}
 use Rattle.mm_parse.proofs.NameReads.{reads_path}
@@ -40,16 +42,16 @@ is_call place callee args operands c k =
     ∙ ap (λ x. the_call place callee x c.operands c.target) k.0.1
     ∙ ap (λ x. the_call place callee args x c.target) k.1
 
-reads_call : Reads code call parsing.call_in (word_codes words.Call) false []
-unfolding parsing.call_in
+reads_call : Reads code call body_parsing.call_in (word_codes words.Call) false []
+unfolding body_parsing.call_in
 reads_call = reads_whole code (
     reads_skip code Open _ (skips_word words.Call) (
     reads_part code Open (λ c. c.place) _ reads_local refl (λ place.
-    reads_skip code (λ c. Unit {0} × (c.place ≡ place)) _ (skips_mark marks.Equals) (
+    reads_skip code (λ c. Unit {0} × (c.place ≡ place)) _ (skips_punct puncts.Equals) (
     reads_part code (λ c. Unit {0} × (c.place ≡ place)) (λ c. c.callee) _ reads_path refl (λ callee.
     reads_part code (λ c. (Unit {0} × (c.place ≡ place)) × (c.callee ≡ callee)) (λ c. c.args) _ reads_args refl (λ args.
     reads_part code (λ c. ((Unit {0} × (c.place ≡ place)) × (c.callee ≡ callee)) × (c.args ≡ args)) (λ c. c.operands) _ reads_ops refl (λ operands.
-    reads_skip code (IsCall place callee args operands) _ (skips_mark marks.Arrow) (
+    reads_skip code (IsCall place callee args operands) _ (skips_punct puncts.Arrow) (
     reads_last code (IsCall place callee args operands) (λ c. c.target) (the_call place callee args operands) reads_label
     (is_call place callee args operands) (λ target. (((((tt, refl), refl), refl), refl), refl))))))))))
 
@@ -58,18 +60,18 @@ reads_call = reads_whole code (
 abbrev the_arm : ℕ → Label → Arm
 the_arm n l = record { number = n; label = l }
 
-reads_arm : (k : ℕ) → Reads code (arm k) (parsing.arm_in k) (5 ∷ []) false []
-unfolding parsing.arm_in
+reads_arm : (k : ℕ) → Reads code (arm k) (body_parsing.arm_in k) (5 ∷ []) false []
+unfolding body_parsing.arm_in
 reads_arm k = reads_whole code (
     reads_part code Open (λ a. a.number) _ reads_number refl (λ n.
-    reads_skip code (λ a. Unit {0} × (a.number ≡ n)) _ (skips_mark marks.FatArrow) (
+    reads_skip code (λ a. Unit {0} × (a.number ≡ n)) _ (skips_punct puncts.FatArrow) (
     reads_part code (λ a. Unit {0} × (a.number ≡ n)) (λ a. a.label) _ reads_label refl (λ l.
-    reads_last_skip code (λ a. (Unit {0} × (a.number ≡ n)) × (a.label ≡ l)) (the_arm n l) (skips_mark marks.Comma)
+    reads_last_skip code (λ a. (Unit {0} × (a.number ≡ n)) × (a.label ≡ l)) (the_arm n l) (skips_punct puncts.Comma)
     (λ a k. ap (λ x. the_arm x a.label) k.0.1 ∙ ap (λ x. the_arm n x) k.1) ((tt, refl), refl)))))
 
-reads_arms : Reads code (each arm 0) parsing.arms_in (5 ∷ []) true (5 ∷ [])
-unfolding parsing.arms_in
-reads_arms = reads_each code parsing.starts_arm (starts_by parsing.is_number (5 ∷ []) number_test) reads_arm refl 0
+reads_arms : Reads code (each arm 0) body_parsing.arms_in (5 ∷ []) true (5 ∷ [])
+unfolding body_parsing.arms_in
+reads_arms = reads_each code body_parsing.starts_arm (starts_by token_parsing.is_number (5 ∷ []) number_test) reads_arm refl 0
 
 abbrev the_switch : Operand → List Arm → Label → Switch
 the_switch operand arms otherwise = record { operand = operand; arms = arms; otherwise = otherwise }
@@ -81,29 +83,29 @@ is_switch : (operand : Operand) (arms : List Arm) (otherwise : Label) (s : Switc
 is_switch operand arms otherwise s k =
     ap (λ x. the_switch x s.arms s.otherwise) k.0.0.1 ∙ ap (λ x. the_switch operand x s.otherwise) k.0.1 ∙ ap (λ x. the_switch operand arms x) k.1
 
-reads_switch : Reads code switch parsing.switch_in (word_codes words.Switch) false []
-unfolding parsing.switch_in
+reads_switch : Reads code switch body_parsing.switch_in (word_codes words.Switch) false []
+unfolding body_parsing.switch_in
 reads_switch = reads_whole code (
     reads_skip code Open _ (skips_word words.Switch) (
     reads_part code Open (λ s. s.operand) _ reads_operand refl (λ operand.
-    reads_skip code (λ s. Unit {0} × (s.operand ≡ operand)) _ (skips_mark marks.OpenBrace) (
+    reads_skip code (λ s. Unit {0} × (s.operand ≡ operand)) _ (skips_punct puncts.OpenBrace) (
     reads_part code (λ s. Unit {0} × (s.operand ≡ operand)) (λ s. s.arms) _ reads_arms refl (λ arms.
     reads_skip code (λ s. (Unit {0} × (s.operand ≡ operand)) × (s.arms ≡ arms)) _ (skips_word words.Else) (
-    reads_skip code (λ s. (Unit {0} × (s.operand ≡ operand)) × (s.arms ≡ arms)) _ (skips_mark marks.FatArrow) (
+    reads_skip code (λ s. (Unit {0} × (s.operand ≡ operand)) × (s.arms ≡ arms)) _ (skips_punct puncts.FatArrow) (
     reads_part code (λ s. (Unit {0} × (s.operand ≡ operand)) × (s.arms ≡ arms)) (λ s. s.otherwise) _ reads_label refl (λ otherwise.
-    reads_last_skip code (IsSwitch operand arms otherwise) (the_switch operand arms otherwise) (skips_mark marks.CloseBrace) (is_switch operand arms otherwise) (((tt, refl), refl), refl)))))))))
+    reads_last_skip code (IsSwitch operand arms otherwise) (the_switch operand arms otherwise) (skips_punct puncts.CloseBrace) (is_switch operand arms otherwise) (((tt, refl), refl), refl)))))))))
 
 -- ends
 
-reads_target : Reads code (λ l. word words.Goto ⋅ label l) parsing.target_label_in (word_codes words.Goto) false []
-unfolding parsing.target_label_in
-reads_target = reads_whole code (reads_skip code Open parsing.label_in (skips_word words.Goto) (reads_open code reads_label))
+reads_target : Reads code (λ l. word words.Goto ⋅ label l) body_parsing.target_label_in (word_codes words.Goto) false []
+unfolding body_parsing.target_label_in
+reads_target = reads_whole code (reads_skip code Open token_parsing.label_in (skips_word words.Goto) (reads_open code reads_label))
 
 abbrev Bare : Word → End → End → List Token → Type 0
 Bare w e f ts = (f ≡ e) × word w ts
 
-reads_bare : (w : Word) (e : End) → Reads code (Bare w e) (parsing.bare_end_in w e) (word_codes w) false []
-unfolding parsing.bare_end_in
+reads_bare : (w : Word) (e : End) → Reads code (Bare w e) (body_parsing.bare_end_in w e) (word_codes w) false []
+unfolding body_parsing.bare_end_in
 reads_bare w e = reads_last_skip code (λ f. f ≡ e) e (skips_word w) (λ f k. k) refl
 
 abbrev Goes : End → List Token → Type 0
@@ -129,11 +131,11 @@ of_an_end (ends.Call c) ts s = inr (inr (inr (inr (record { part = c; is = refl;
 abbrev pub end_codes : List ℕ
 end_codes = kind_code (kinds.Word words.Return) ∷ kind_code (kinds.Word words.Unreachable) ∷ kind_code (kinds.Word words.Goto) ∷ kind_code (kinds.Word words.Switch) ∷ kind_code (kinds.Word words.Call) ∷ []
 
-pub reads_end : Reads code end parsing.end_in end_codes false []
-unfolding parsing.end_in
+pub reads_end : Reads code end body_parsing.end_in end_codes false []
+unfolding body_parsing.end_in
 reads_end = reads_same code an_end of_an_end (
-    reads_either code (parsing.starts (parsing.is_word words.Return)) (starts_word words.Return) (reads_bare words.Return ends.Return) (
-    reads_either code (parsing.starts (parsing.is_word words.Unreachable)) (starts_word words.Unreachable) (reads_bare words.Unreachable ends.Unreachable) (
-    reads_either code (parsing.starts (parsing.is_word words.Goto)) (starts_word words.Goto) (reads_made code ends.Goto reads_target) (
-    reads_either code (parsing.starts (parsing.is_word words.Switch)) (starts_word words.Switch) (reads_made code ends.Switch reads_switch) (reads_made code ends.Call reads_call)
+    reads_either code (token_parsing.starts (token_parsing.is_word words.Return)) (starts_word words.Return) (reads_bare words.Return ends.Return) (
+    reads_either code (token_parsing.starts (token_parsing.is_word words.Unreachable)) (starts_word words.Unreachable) (reads_bare words.Unreachable ends.Unreachable) (
+    reads_either code (token_parsing.starts (token_parsing.is_word words.Goto)) (starts_word words.Goto) (reads_made code ends.Goto reads_target) (
+    reads_either code (token_parsing.starts (token_parsing.is_word words.Switch)) (starts_word words.Switch) (reads_made code ends.Switch reads_switch) (reads_made code ends.Call reads_call)
     refl) refl) refl) refl)

@@ -3,7 +3,7 @@ use Rattle.std.proofs.Common.{◌≡◌, ℕ, zero, suc, List, [], ◌∷◌, �
 use Rattle.mm_lex.specs.declared.token.Token.{Token}
 use Rattle.mm_lex.specs.declared.token.TokenKind.TheVariants as kinds
 use Rattle.mm_lex.specs.declared.word.Word.TheVariants as words
-use Rattle.mm_lex.specs.declared.mark.Mark.TheVariants as marks
+use Rattle.mm_lex.specs.declared.punct.Punct.TheVariants as puncts
 use Rattle.mm_parse.specs.declared.ast.Type as written
 use Rattle.mm_parse.specs.declared.ast.Item as items
 use Rattle.mm_parse.specs.declared.ast.Item.TheViews.{out-Item, roll-Item, roll-out-Item, out-roll-Item}
@@ -14,11 +14,14 @@ use Rattle.mm_parse.specs.declared.ast.Name.{Name}
 use Rattle.mm_parse.specs.declared.ast.Block.{Block}
 use Rattle.mm_parse.specs.Language.{◌⋅◌, nothing, optional, each}
 use Rattle.mm_parse.specs.Reading.{◌>>=◌}
-use Rattle.mm_parse.specs.Grammar.{word, mark, name, body, function, form, item, module_within}
+use Rattle.mm_parse.specs.Grammar.{word, punct, name, body, function, form, item, module_within}
+use Rattle.mm_parse.specs.TokenParsing as token_parsing
+use Rattle.mm_parse.specs.BodyParsing as body_parsing
 use Rattle.mm_parse.specs.Parsing as parsing
-use Rattle.mm_parse.proofs.Readers.{Reads, Made, begins_in, reads_part, reads_skip, reads_last, reads_last_skip, reads_done, reads_either, reads_each, reads_same, reads_whole, reads_made}
-use Rattle.mm_parse.proofs.TokenCodes.{code, kind_code, skips_word, skips_mark, word_test, or_test}
-use Rattle.mm_parse.proofs.TokenReads.{Open, mark_codes, reads_name, reads_from}
+use Rattle.mm_parse.proofs.Readers.{Reads, begins_in, reads_part, reads_skip, reads_done, reads_either, reads_each, reads_same}
+use Rattle.mm_parse.proofs.RepeatReads.{Made, reads_last, reads_last_skip, reads_whole, reads_made}
+use Rattle.mm_parse.proofs.TokenCodes.{code, kind_code, skips_word, skips_punct, word_test, or_test}
+use Rattle.mm_parse.proofs.TokenReads.{Open, punct_codes, reads_name, reads_from}
 use Rattle.mm_parse.proofs.TypeReads.{word_codes, starts_word, reads_params, reads_result}
 use Rattle.mm_parse.proofs.NameReads.{reads_type_params}
 use Rattle.mm_parse.proofs.BodyReads.{reads_body}
@@ -36,7 +39,7 @@ of_public false ts s = inr (refl, s)
 
 reads_public : Reads code (optional (word words.Pub)) parsing.public_in pub_code true pub_code
 unfolding parsing.public_in
-reads_public = reads_same code is_public of_public (reads_either code (parsing.starts (parsing.is_word words.Pub)) (starts_word words.Pub)
+reads_public = reads_same code is_public of_public (reads_either code (token_parsing.starts (token_parsing.is_word words.Pub)) (starts_word words.Pub)
     (reads_last_skip code (λ b. b ≡ true) true (skips_word words.Pub) (λ b k. k) refl) (reads_done code (λ b. b ≡ false) false (λ b k. k) refl) refl)
 
 abbrev function_codes : List ℕ
@@ -64,12 +67,12 @@ is_function is_pub n type_params params result f k =
     ∙ ap (λ x. the_function is_pub n type_params x f.1.result (body_of f)) k.0.1
     ∙ ap (λ x. the_function is_pub n type_params params x (body_of f)) k.1
 
-abbrev read_body : Bool → Name → List Name → List written.«Type» → Option written.«Type» → List Token → parsing.Read Named
-read_body is_pub n type_params params result ts = parsing.body_in (length params) ts >>= λ b. Ok (the_function is_pub n type_params params result b.0, b.1)
+abbrev read_body : Bool → Name → List Name → List written.«Type» → Option written.«Type» → List Token → token_parsing.Read Named
+read_body is_pub n type_params params result ts = body_parsing.body_in (length params) ts >>= λ b. Ok (the_function is_pub n type_params params result b.0, b.1)
 
 -- the body of a function has its locals behind the parameters that were read
 reads_rest : (is_pub : Bool) (n : Name) (type_params : List Name) (params : List written.«Type») (result : Option written.«Type»)
-    → Reads code (λ f ts. IsFunction is_pub n type_params params result f × body (length f.1.params) (body_of f) ts) (read_body is_pub n type_params params result) (mark_codes marks.OpenBrace) false []
+    → Reads code (λ f ts. IsFunction is_pub n type_params params result f × body (length f.1.params) (body_of f) ts) (read_body is_pub n type_params params result) (punct_codes puncts.OpenBrace) false []
 reads_rest is_pub n type_params params result = reads_same code
     (λ f ts s. (s.0, subst (λ tys. body (length tys) (body_of f) ts) (sym s.0.0.1) s.1))
     (λ f ts s. (s.0, subst (λ tys. body (length tys) (body_of f) ts) s.0.0.1 s.1))
@@ -95,12 +98,12 @@ begins_item : (ts : List Token) → parsing.starts_item ts ≡ begins_in code it
 begins_item [] = refl
 begins_item (t ∷ ts) =
     let k = t.kind in
-    let two = or_test (parsing.is_word words.Mod k) (parsing.is_word words.Pub k) (code t) (word_codes words.Mod) (word_codes words.Pub) (word_test words.Mod k) (word_test words.Pub k) in
-    or_test _ (parsing.is_word words.Fn k) (code t) (word_codes words.Mod ++ word_codes words.Pub) (word_codes words.Fn) two (word_test words.Fn k)
+    let two = or_test (token_parsing.is_word words.Mod k) (token_parsing.is_word words.Pub k) (code t) (word_codes words.Mod) (word_codes words.Pub) (word_test words.Mod k) (word_test words.Pub k) in
+    or_test _ (token_parsing.is_word words.Fn k) (code t) (word_codes words.Mod ++ word_codes words.Pub) (word_codes words.Fn) two (word_test words.Fn k)
 
 -- items, over a language of modules
 
-module _ (L : Name → List items.Item → List Token → Type 0) {modules : List Token → parsing.Read parsing.Module} (one : Reads code (λ m. L m.0 m.1) modules (word_codes words.Mod) false []) where
+module _ (L : Name → List items.Item → List Token → Type 0) {modules : List Token → token_parsing.Read parsing.Module} (one : Reads code (λ m. L m.0 m.1) modules (word_codes words.Mod) false []) where
   abbrev AModule : parsing.Entry → List Token → Type 0
   AModule = Made code parsing.of_module (λ m. L m.0 m.1)
 
@@ -119,7 +122,7 @@ module _ (L : Name → List items.Item → List Token → Type 0) {modules : Lis
   reads_entry : Reads code (λ e. form L e.0 e.1 e.2) (parsing.entry_in modules) item_codes false []
   unfolding parsing.entry_in
   reads_entry = reads_same code an_entry (λ e ts x. of_entry e.0 e.1 e.2 ts x) (
-      reads_either code (parsing.starts (parsing.is_word words.Mod)) (starts_word words.Mod) (reads_made code parsing.of_module one) (reads_made code parsing.of_function reads_function) refl)
+      reads_either code (token_parsing.starts (token_parsing.is_word words.Mod)) (starts_word words.Mod) (reads_made code parsing.of_module one) (reads_made code parsing.of_function reads_function) refl)
 
   reads_item : (k : ℕ) → Reads code (item L k) (parsing.item_in modules k) item_codes false []
   unfolding parsing.item_in
@@ -133,22 +136,22 @@ module _ (L : Name → List items.Item → List Token → Type 0) {modules : Lis
   unfolding parsing.items_in
   reads_items = reads_each code parsing.starts_item begins_item reads_item refl 0
 
-  reads_module : Reads code (λ m. word words.Mod ⋅ name m.0 ⋅ mark marks.OpenBrace ⋅ each (item L) 0 m.1 ⋅ mark marks.CloseBrace) (parsing.module_in modules) (word_codes words.Mod) false []
+  reads_module : Reads code (λ m. word words.Mod ⋅ name m.0 ⋅ punct puncts.OpenBrace ⋅ each (item L) 0 m.1 ⋅ punct puncts.CloseBrace) (parsing.module_in modules) (word_codes words.Mod) false []
   unfolding parsing.module_in
   reads_module = reads_whole code (
       reads_skip code Open _ (skips_word words.Mod) (
       reads_part code Open (λ m. m.0) _ reads_name refl (λ n.
-      reads_skip code (λ m. Unit {0} × (m.0 ≡ n)) _ (skips_mark marks.OpenBrace) (
+      reads_skip code (λ m. Unit {0} × (m.0 ≡ n)) _ (skips_punct puncts.OpenBrace) (
       reads_part code (λ m. Unit {0} × (m.0 ≡ n)) (λ m. m.1) _ reads_items refl (λ is.
-      reads_last_skip code (λ m. (Unit {0} × (m.0 ≡ n)) × (m.1 ≡ is)) (n, is) (skips_mark marks.CloseBrace)
+      reads_last_skip code (λ m. (Unit {0} × (m.0 ≡ n)) × (m.1 ≡ is)) (n, is) (skips_punct puncts.CloseBrace)
       (λ m k. ap (λ x. (x, m.1)) k.0.1 ∙ ap (λ x. (n, x)) k.1) ((tt, refl), refl))))))
 
 reads_module_within : (n : ℕ) → Reads code (λ m. module_within n m.0 m.1) (parsing.module_within_in n) (word_codes words.Mod) false []
 unfolding module_within parsing.module_within_in
 reads_module_within zero = record {
   sound = λ ts m rest h. cc;
-  complete = λ m front rest s stop. absurd s;
-  begins = λ m front s. absurd s;
+  complete = λ m prefix rest s stop. absurd s;
+  begins = λ m prefix s. absurd s;
 }
 reads_module_within (suc n) = reads_module (module_within n) (reads_module_within n)
 

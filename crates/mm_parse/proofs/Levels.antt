@@ -1,7 +1,8 @@
 -- Types and modules that nest no deeper than so many levels, one level at a time.
 use Rattle.std.proofs.Common.{◌≡◌, ℕ, zero, suc, ◌-◌, List, Err, refl, sym, ap, arith}
 use Rattle.mm_lex.specs.declared.token.Token.{Token}
-use Rattle.mm_parse.specs.Parsing.{within_in, node_in, module_within_in, module_in}
+use Rattle.mm_parse.specs.TypeParsing.{within_in, node_in}
+use Rattle.mm_parse.specs.Parsing.{module_within_in, module_in}
 
 pub no_level : (n : ℕ) (ts : List Token) → n ≡ 0 → within_in n ts ≡ Err ts
 unfolding within_in

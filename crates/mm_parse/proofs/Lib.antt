@@ -8,6 +8,7 @@ pub mod Loops
 pub mod NameReads
 pub mod OperandReads
 pub mod Readers
+pub mod RepeatReads
 pub mod StatementReads
 pub mod TokenCodes
 pub mod TokenReads

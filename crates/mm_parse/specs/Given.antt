@@ -11,7 +11,7 @@ abbrev pub Refuses : {Y E : Type 0} → TextError → Result Y E → Type 0
 Refuses BadText read = Failed read
 Refuses NoMemory read = Unit {0}
 
--- the result, as the view sees it, is what is read; want of memory is free
+-- the result, as the view sees it, is what is read; out of memory is free
 abbrev pub Gives : {X Y E : Type 0} → (X → Y) → Result X TextError → Result Y E → Type 0
 Gives view (Ok x) read = read ≡ Ok (view x)
 Gives view (Err e) read = Refuses e read

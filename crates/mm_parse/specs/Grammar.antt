@@ -1,14 +1,14 @@
 -- The grammar of the text language: the tokens that spell each part of a tree.
 -- Over each part stands its rule. Braces repeat, square brackets make optional, quoted words are tokens.
 use Rattle.std.specs.Prelude.{◌≡◌, ℕ, zero, suc, ◌+◌, true, false, List, [], ◌∷◌, length}
-use Rattle.mm_lex.specs.declared.token.Place.{Place}
+use Rattle.mm_lex.specs.declared.token.Position.{Position}
 use Rattle.mm_lex.specs.declared.token.Token.{Token}
 use Rattle.mm_lex.specs.declared.token.TokenKind.{TokenKind}
 use Rattle.mm_lex.specs.declared.token.TokenKind.TheVariants as kinds
 use Rattle.mm_lex.specs.declared.word.Word.{Word}
 use Rattle.mm_lex.specs.declared.word.Word.TheVariants as words
-use Rattle.mm_lex.specs.declared.mark.Mark.{Mark}
-use Rattle.mm_lex.specs.declared.mark.Mark.TheVariants as marks
+use Rattle.mm_lex.specs.declared.punct.Punct.{Punct}
+use Rattle.mm_lex.specs.declared.punct.Punct.TheVariants as puncts
 use Rattle.mm_parse.specs.declared.ast.Crate.{Crate}
 use Rattle.mm_parse.specs.declared.ast.Item as items
 use Rattle.mm_parse.specs.declared.ast.Item.TheViews.{out-Item}
@@ -37,9 +37,9 @@ use Rattle.mm_parse.specs.declared.ast.Local.{Local}
 use Rattle.mm_parse.specs.declared.ast.Label.{Label}
 use Rattle.mm_parse.specs.declared.ast.Operand.{Operand}
 use Rattle.mm_parse.specs.declared.ast.Operand.TheVariants as operands
-use Rattle.mm_parse.specs.Language.{◌⋅◌, optional, maybe, if_any, each, some, parted, at_least, at_most}
+use Rattle.mm_parse.specs.Language.{◌⋅◌, optional, maybe, if_any, each, some, separated, at_least, at_most}
 
--- one token of this kind, at any place
+-- one token of this kind, at any position
 pub record One (kind : TokenKind) (tokens : List Token) : Type 0 where
   pub token : Token
   pub is : tokens ≡ token ∷ []
@@ -48,19 +48,19 @@ pub record One (kind : TokenKind) (tokens : List Token) : Type 0 where
 abbrev pub word : Word → List Token → Type 0
 word w = One (kinds.Word w)
 
-abbrev pub mark : Mark → List Token → Type 0
-mark m = One (kinds.Mark m)
+abbrev pub punct : Punct → List Token → Type 0
+punct m = One (kinds.Punct m)
 
 abbrev pub named : List ℕ → List Token → Type 0
 named text = One (kinds.Name text)
 
--- the first token stands at this place
-abbrev pub stands_at : Place → List Token → Type 0
+-- the first token stands at this position
+abbrev pub stands_at : Position → List Token → Type 0
 stands_at at [] = ⊥
 stands_at at (t ∷ ts) = t.at ≡ at
 
--- this is spelled, and the place is that of its first token
-abbrev pub from : Place → (List Token → Type 0) → List Token → Type 0
+-- this is spelled, and the position is that of its first token
+abbrev pub from : Position → (List Token → Type 0) → List Token → Type 0
 from at L ts = L ts × stands_at at ts
 
 abbrev pub name : Name → List Token → Type 0
@@ -74,15 +74,15 @@ label l = from l.at (One (kinds.Label l.number))
 
 -- x { "," x }
 abbrev pub list : {A : Type 0} → (A → List Token → Type 0) → List A → List Token → Type 0
-list L = parted (mark marks.Comma) L
+list L = separated (punct puncts.Comma) L
 
 -- "(" [ list ] ")"
 abbrev pub in_parens : {A : Type 0} → (List A → List Token → Type 0) → List A → List Token → Type 0
-in_parens L xs = mark marks.Open ⋅ if_any L xs ⋅ mark marks.Close
+in_parens L xs = punct puncts.Open ⋅ if_any L xs ⋅ punct puncts.Close
 
 -- [ "<" list ">" ]
 abbrev pub in_angles : {A : Type 0} → (List A → List Token → Type 0) → List A → List Token → Type 0
-in_angles L = if_any (λ xs. mark marks.Less ⋅ L xs ⋅ mark marks.Greater)
+in_angles L = if_any (λ xs. punct puncts.Less ⋅ L xs ⋅ punct puncts.Greater)
 
 -- ty = name | "u64" | "bool" | "(" [ ty "," ty { "," ty } ] ")" | "&" ty | "Box" "<" ty ">" .
 -- The types below the head are spelled as the inner language says.
@@ -91,8 +91,8 @@ shape inner (heads.Param text) [] ts = named text ts
 shape inner heads.U64 [] ts = word words.U64 ts
 shape inner heads.Bool [] ts = word words.Bool ts
 shape inner heads.Tuple tys ts = in_parens (at_least 2 (list inner)) tys ts
-shape inner heads.Ref (t ∷ []) ts = (mark marks.Ampersand ⋅ inner t) ts
-shape inner heads.Boxed (t ∷ []) ts = (word words.BoxType ⋅ mark marks.Less ⋅ inner t ⋅ mark marks.Greater) ts
+shape inner heads.Ref (t ∷ []) ts = (punct puncts.Ampersand ⋅ inner t) ts
+shape inner heads.Boxed (t ∷ []) ts = (word words.BoxType ⋅ punct puncts.Less ⋅ inner t ⋅ punct puncts.Greater) ts
 shape inner _ _ ts = ⊥
 
 -- a type that nests no deeper than so many levels
@@ -110,7 +110,7 @@ args = in_angles (list ty)
 
 -- "::" name
 abbrev pub segment : ℕ → List ℕ → List Token → Type 0
-segment k text = mark marks.PathSep ⋅ named text
+segment k text = punct puncts.PathSep ⋅ named text
 
 -- path = name "::" name { "::" name } .
 abbrev pub path : Path → List Token → Type 0
@@ -141,29 +141,29 @@ op_word operations.Lt = words.Lt
 -- rvalue = operand | "not" "(" operand ")" | op "(" operand "," operand ")" .
 abbrev pub rvalue : Rvalue → List Token → Type 0
 rvalue (rvalues.Use o) = operand o
-rvalue (rvalues.Not o) = word words.Not ⋅ mark marks.Open ⋅ operand o ⋅ mark marks.Close
-rvalue (rvalues.Binary op a b) = word (op_word op) ⋅ mark marks.Open ⋅ operand a ⋅ mark marks.Comma ⋅ operand b ⋅ mark marks.Close
+rvalue (rvalues.Not o) = word words.Not ⋅ punct puncts.Open ⋅ operand o ⋅ punct puncts.Close
+rvalue (rvalues.Binary op a b) = word (op_word op) ⋅ punct puncts.Open ⋅ operand a ⋅ punct puncts.Comma ⋅ operand b ⋅ punct puncts.Close
 
 -- stmt = local "=" rvalue | "print" operand .
 abbrev pub statement : Statement → List Token → Type 0
-statement (statements.Set l r) = local l ⋅ mark marks.Equals ⋅ rvalue r
+statement (statements.Set l r) = local l ⋅ punct puncts.Equals ⋅ rvalue r
 statement (statements.Print o) = word words.Print ⋅ operand o
 
 -- stmt ";"
 abbrev pub ended_statement : ℕ → Statement → List Token → Type 0
-ended_statement k s = statement s ⋅ mark marks.Semicolon
+ended_statement k s = statement s ⋅ punct puncts.Semicolon
 
 -- number "=>" label ","
 abbrev pub arm : ℕ → Arm → List Token → Type 0
-arm k a = One (kinds.Number a.number) ⋅ mark marks.FatArrow ⋅ label a.label ⋅ mark marks.Comma
+arm k a = One (kinds.Number a.number) ⋅ punct puncts.FatArrow ⋅ label a.label ⋅ punct puncts.Comma
 
 -- switch = "switch" operand "{" { number "=>" label "," } "else" "=>" label "}" .
 abbrev pub switch : Switch → List Token → Type 0
-switch s = word words.Switch ⋅ operand s.operand ⋅ mark marks.OpenBrace ⋅ each arm 0 s.arms ⋅ word words.Else ⋅ mark marks.FatArrow ⋅ label s.otherwise ⋅ mark marks.CloseBrace
+switch s = word words.Switch ⋅ operand s.operand ⋅ punct puncts.OpenBrace ⋅ each arm 0 s.arms ⋅ word words.Else ⋅ punct puncts.FatArrow ⋅ label s.otherwise ⋅ punct puncts.CloseBrace
 
 -- call = "call" local "=" path args "(" ops ")" "->" label .
 abbrev pub call : Call → List Token → Type 0
-call c = word words.Call ⋅ local c.place ⋅ mark marks.Equals ⋅ path c.callee ⋅ args c.args ⋅ ops c.operands ⋅ mark marks.Arrow ⋅ label c.target
+call c = word words.Call ⋅ local c.place ⋅ punct puncts.Equals ⋅ path c.callee ⋅ args c.args ⋅ ops c.operands ⋅ punct puncts.Arrow ⋅ label c.target
 
 -- end = "return" | "unreachable" | "goto" label | switch | call .
 abbrev pub end : End → List Token → Type 0
@@ -175,15 +175,15 @@ end (ends.Call c) = call c
 
 -- block = label ":" "{" { stmt ";" } end "}" . The k-th block has the label bb k.
 abbrev pub block : ℕ → Block → List Token → Type 0
-block k b = One (kinds.Label k) ⋅ mark marks.Colon ⋅ mark marks.OpenBrace ⋅ each ended_statement 0 b.statements ⋅ end b.end ⋅ mark marks.CloseBrace
+block k b = One (kinds.Label k) ⋅ punct puncts.Colon ⋅ punct puncts.OpenBrace ⋅ each ended_statement 0 b.statements ⋅ end b.end ⋅ punct puncts.CloseBrace
 
 -- "let" local ":" ty ";" . The k-th, from 0, has the local with the number 1 + k + the number of parameters.
 abbrev pub declared_local : ℕ → ℕ → written.«Type» → List Token → Type 0
-declared_local params k t = word words.Let ⋅ One (kinds.Local (1 + (params + k))) ⋅ mark marks.Colon ⋅ ty t ⋅ mark marks.Semicolon
+declared_local params k t = word words.Let ⋅ One (kinds.Local (1 + (params + k))) ⋅ punct puncts.Colon ⋅ ty t ⋅ punct puncts.Semicolon
 
 -- body = "{" { "let" local ":" ty ";" } block { block } "}" . It is that of a function with so many parameters.
 abbrev pub body : ℕ → List written.«Type» × List Block → List Token → Type 0
-body params b = mark marks.OpenBrace ⋅ each (declared_local params) 0 b.0 ⋅ some block 0 b.1 ⋅ mark marks.CloseBrace
+body params b = punct puncts.OpenBrace ⋅ each (declared_local params) 0 b.0 ⋅ some block 0 b.1 ⋅ punct puncts.CloseBrace
 
 -- params = [ "<" name { "," name } ">" ] .
 abbrev pub type_params : List Name → List Token → Type 0
@@ -195,13 +195,13 @@ params = in_parens (at_most 65534 (list ty))
 
 -- "->" ty
 abbrev pub result : written.«Type» → List Token → Type 0
-result t = mark marks.Arrow ⋅ ty t
+result t = punct puncts.Arrow ⋅ ty t
 
 -- fn = [ "pub" ] "fn" name params "(" tys ")" [ "->" ty ] body .
 abbrev pub function : Name → Function → List Token → Type 0
 function n f = optional (word words.Pub) f.is_pub ⋅ word words.Fn ⋅ name n ⋅ type_params f.type_params ⋅ params f.params ⋅ maybe result f.result ⋅ body (length f.params) (f.lets, f.blocks)
 
--- what stands behind the place of an item
+-- what stands behind the position of an item
 abbrev pub form : (Name → List items.Item → List Token → Type 0) → Name → Form → List items.Item → List Token → Type 0
 form modules n forms.Module is ts = modules n is ts
 form modules n (forms.Function f) [] ts = function n f ts
@@ -214,8 +214,8 @@ item modules k i = from (out-Item i).at (form modules (out-Item i).name (out-Ite
 -- mod = "mod" name "{" { item } "}" . Modules nest no deeper than so many levels.
 unfoldable pub module_within : ℕ → Name → List items.Item → List Token → Type 0
 module_within zero n is ts = ⊥
-module_within (suc levels) n is ts = (word words.Mod ⋅ name n ⋅ mark marks.OpenBrace ⋅ each (item (module_within levels)) 0 is ⋅ mark marks.CloseBrace) ts
+module_within (suc levels) n is ts = (word words.Mod ⋅ name n ⋅ punct puncts.OpenBrace ⋅ each (item (module_within levels)) 0 is ⋅ punct puncts.CloseBrace) ts
 
 -- text = "crate" name ";" { item } . Modules nest at most 64 deep.
 abbrev pub text : Crate → List Token → Type 0
-text c = from c.at (word words.Crate ⋅ named c.name ⋅ mark marks.Semicolon ⋅ each (item (module_within 64)) 0 c.items)
+text c = from c.at (word words.Crate ⋅ named c.name ⋅ punct puncts.Semicolon ⋅ each (item (module_within 64)) 0 c.items)

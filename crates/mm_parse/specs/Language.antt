@@ -3,10 +3,10 @@ use Rattle.std.specs.Prelude.{◌≡◌, ◌≤◌, ℕ, ◌+◌, Bool, true, fa
 
 -- a spelling of the one and then one of the other
 pub record Joined {T : Type 0} (L M : List T → Type 0) (ts : List T) : Type 0 where
-  pub front : List T
+  pub prefix : List T
   pub back : List T
-  pub is : ts ≡ front ++ back
-  pub first : L front
+  pub is : ts ≡ prefix ++ back
+  pub first : L prefix
   pub second : M back
 
 infixr 5 ◌⋅◌
@@ -47,9 +47,9 @@ abbrev pub first_then : {T A : Type 0} → (A → List T → Type 0) → (ℕ �
 first_then L M [] ts = ⊥
 first_then L M (x ∷ xs) ts = (L x ⋅ each M 0 xs) ts
 
--- at least one thing, and between each two of them what parts them
-abbrev pub parted : {T A : Type 0} → (List T → Type 0) → (A → List T → Type 0) → List A → List T → Type 0
-parted comma L = first_then L (λ k x. comma ⋅ L x)
+-- at least one thing, and between each two of them what separates them
+abbrev pub separated : {T A : Type 0} → (List T → Type 0) → (A → List T → Type 0) → List A → List T → Type 0
+separated comma L = first_then L (λ k x. comma ⋅ L x)
 
 -- there are so many of the things, or more
 abbrev pub at_least : {T A : Type 0} → ℕ → (List A → List T → Type 0) → List A → List T → Type 0

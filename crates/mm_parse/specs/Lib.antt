@@ -2,5 +2,8 @@ pub mod Codes
 pub mod Given
 pub mod Grammar
 pub mod Language
+pub mod TokenParsing
+pub mod TypeParsing
+pub mod BodyParsing
 pub mod Parsing
 pub mod Reading

@@ -1,4 +1,4 @@
--- Reading a list of tokens from the front: what was read and the tokens after it, or the tokens from the first unfit one on.
+-- Reading a list of tokens from its head: what was read and the tokens after it, or the tokens from the first unfit one on.
 use Rattle.std.specs.Prelude.{ℕ, zero, suc, ◌+◌, ltb, List, [], ◌∷◌, ◌++◌, length, Bool, cond, Option, Some, None, Result, Ok, Err}
 
 infixl 10 ◌>>=◌
@@ -12,12 +12,12 @@ each_in begins read zero k ts = Ok ([], ts)
 each_in begins read (suc n) k ts = cond (begins ts) (read k ts >>= λ x. each_in begins read n (k + 1) x.1 >>= λ xs. Ok (x.0 ∷ xs.0, xs.1)) (Ok ([], ts))
 
 -- what a loop has read, and then what is read of the others
-abbrev pub with_front : {T A : Type 0} → List A → Result (List A × List T) (List T) → Result (List A × List T) (List T)
-with_front xs read = read >>= λ x. Ok (xs ++ x.0, x.1)
+abbrev pub with_prefix : {T A : Type 0} → List A → Result (List A × List T) (List T) → Result (List A × List T) (List T)
+with_prefix xs read = read >>= λ x. Ok (xs ++ x.0, x.1)
 
 -- a first thing, and then the others, while the next token begins one
 abbrev pub first_in : {T A : Type 0} → (List T → Bool) → (ℕ → List T → Result (A × List T) (List T)) → A → List T → Result (List A × List T) (List T)
-first_in begins read x ts = with_front (x ∷ []) (each_in begins read (length ts) 0 ts)
+first_in begins read x ts = with_prefix (x ∷ []) (each_in begins read (length ts) 0 ts)
 
 -- the things, where the next token begins them, and else none
 abbrev pub any_in : {T A : Type 0} → (List T → Bool) → (List T → Result (List A × List T) (List T)) → List T → Result (List A × List T) (List T)

@@ -1,30 +1,30 @@
 //! The tree of a text: what is written, and where, before any name is looked up.
 
-use mm_lex::Place;
+use mm_lex::Position;
 use mm_terms::Text;
 use sqlite_items::Items;
 
 /// A crate as it is written.
-#[derive(Debug, Drop)]
+#[derive(Drop)]
 pub struct Crate {
-    /// The place of the word `crate`.
-    pub at: Place,
+    /// The position of the word `crate`.
+    pub at: Position,
     pub name: Text,
     pub items: Items<Item>,
 }
 
-/// A name, and its place.
-#[derive(Debug, Drop)]
+/// A name, and its position.
+#[derive(Drop)]
 pub struct Name {
-    pub at: Place,
+    pub at: Position,
     pub text: Text,
 }
 
 /// A definition, or a module with definitions.
-#[derive(Debug, Drop)]
+#[derive(Drop)]
 pub struct Item {
-    /// The place of its first token.
-    pub at: Place,
+    /// The position of its first token.
+    pub at: Position,
     pub name: Name,
     pub form: Form,
     /// What stands in a module. A function has nothing here.
@@ -32,14 +32,14 @@ pub struct Item {
 }
 
 /// What an item is.
-#[derive(Debug, Drop)]
+#[derive(Drop)]
 pub enum Form {
     Module,
     Function(Function),
 }
 
 /// A function, beside its name.
-#[derive(Debug, Drop)]
+#[derive(Drop)]
 pub struct Function {
     pub is_pub: bool,
     pub type_params: Items<Name>,
@@ -55,16 +55,16 @@ pub struct Function {
 }
 
 /// A type as it is written. Each head has as many children as it takes.
-#[derive(Debug, Drop)]
+#[derive(Drop)]
 pub struct Type {
-    /// The place of its first token.
-    pub at: Place,
+    /// The position of its first token.
+    pub at: Position,
     pub head: Head,
     pub children: Items<Type>,
 }
 
 /// What stands at the head of a type.
-#[derive(Debug, Drop)]
+#[derive(Drop)]
 pub enum Head {
     /// A type parameter, by its name.
     Param(Text),
@@ -79,14 +79,14 @@ pub enum Head {
 }
 
 /// A basic block.
-#[derive(Debug, Drop)]
+#[derive(Drop)]
 pub struct Block {
     pub statements: Items<Statement>,
     pub end: End,
 }
 
 /// What a block does before it ends.
-#[derive(Debug, Drop)]
+#[derive(Drop)]
 pub enum Statement {
     /// A local that is written, and what is written into it.
     Set(Local, Rvalue),
@@ -94,7 +94,7 @@ pub enum Statement {
 }
 
 /// What a value is made of.
-#[derive(Debug, Drop)]
+#[derive(Drop)]
 pub enum Rvalue {
     Use(Operand),
     Not(Operand),
@@ -102,7 +102,7 @@ pub enum Rvalue {
 }
 
 /// An operation on two operands: `add`, `sub`, `mul`, `div`, `rem`, `eq` or `lt`.
-#[derive(Clone, Copy, Debug, PartialEq, Eq, Hash)]
+#[derive(Clone, Copy)]
 pub enum Op {
     Add,
     Sub,
@@ -114,7 +114,7 @@ pub enum Op {
 }
 
 /// How a block ends.
-#[derive(Debug, Drop)]
+#[derive(Drop)]
 pub enum End {
     Return,
     Unreachable,
@@ -124,7 +124,7 @@ pub enum End {
 }
 
 /// A choice of the block to go on with, by a number.
-#[derive(Debug, Drop)]
+#[derive(Drop)]
 pub struct Switch {
     pub operand: Operand,
     pub arms: Items<Arm>,
@@ -133,14 +133,14 @@ pub struct Switch {
 }
 
 /// A number, and the block to go on with where the operand is this number.
-#[derive(Clone, Copy, Debug, PartialEq, Eq)]
+#[derive(Clone, Copy)]
 pub struct Arm {
     pub number: u64,
     pub label: Label,
 }
 
 /// A call, and the block that the caller goes on with.
-#[derive(Debug, Drop)]
+#[derive(Drop)]
 pub struct Call {
     /// Where the result goes.
     pub place: Local,
@@ -152,30 +152,30 @@ pub struct Call {
 }
 
 /// A path from a crate's name through at least one more name.
-#[derive(Debug, Drop)]
+#[derive(Drop)]
 pub struct Path {
-    /// The place of its first name.
-    pub at: Place,
+    /// The position of its first name.
+    pub at: Position,
     pub krate: Text,
     pub names: Items<Text>,
 }
 
-/// A local of a body, and the place where it is named.
-#[derive(Clone, Copy, Debug, PartialEq, Eq)]
+/// A local of a body, and the position where it is named.
+#[derive(Clone, Copy)]
 pub struct Local {
-    pub at: Place,
+    pub at: Position,
     pub number: u32,
 }
 
-/// A block of a body, and the place where it is named.
-#[derive(Clone, Copy, Debug, PartialEq, Eq)]
+/// A block of a body, and the position where it is named.
+#[derive(Clone, Copy)]
 pub struct Label {
-    pub at: Place,
+    pub at: Position,
     pub number: u32,
 }
 
 /// A value that is read: that of a local, or one that is written out.
-#[derive(Clone, Copy, Debug, PartialEq, Eq)]
+#[derive(Clone, Copy)]
 pub enum Operand {
     Copy(Local),
     Move(Local),

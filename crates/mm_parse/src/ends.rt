@@ -1,26 +1,26 @@
 ghost use Rattle.mm_parse.specs.Given.{Gives};
-ghost use Rattle.mm_parse.specs.Parsing.{call_in, arm_in, arms_in, switch_in, target_label_in, bare_end_in, end_in};
+ghost use Rattle.mm_parse.specs.BodyParsing.{call_in, arm_in, arms_in, switch_in, target_label_in, bare_end_in, end_in};
 
 use crate::ast::{Arm, Call, End, Label, Switch};
 use crate::names::path;
 use crate::operands::{operand, operands};
-use crate::pieces::{label, local, number, past_mark, past_word, starts_number, starts_word};
+use crate::pieces::{label, local, number, past_punct, past_word, starts_number, starts_word};
 use crate::types::args;
-use mm_lex::{Mark, TextError, Token, Word};
+use mm_lex::{Punct, TextError, Token, Word};
 use sqlite_items::Items;
 use std::alloc::Global;
 
-#[tactic(auto, unfolding(crate::specs::Parsing::call_in))]
+#[tactic(auto, unfolding(crate::specs::BodyParsing::call_in))]
 fn call(alloc: Global, tokens: &[Token]) -> Result<(Call, &[Token]), TextError>
     ensures { Gives (λ x. (x.0, x.1.now)) result (call_in tokens.now) }
 {
     let rest = past_word(Word::Call, tokens)?;
     let (place, rest) = local(rest)?;
-    let rest = past_mark(Mark::Equals, rest)?;
+    let rest = past_punct(Punct::Equals, rest)?;
     let (callee, rest) = path(alloc, rest)?;
     let (args, rest) = args(alloc, rest)?;
     let (operands, rest) = operands(alloc, rest)?;
-    let rest = past_mark(Mark::Arrow, rest)?;
+    let rest = past_punct(Punct::Arrow, rest)?;
     let (target, rest) = label(rest)?;
     Ok((
         Call {
@@ -35,46 +35,46 @@ fn call(alloc: Global, tokens: &[Token]) -> Result<(Call, &[Token]), TextError>
 }
 
 /// A number, and the block for it.
-#[tactic(auto, unfolding(crate::specs::Parsing::arm_in))]
-fn arm(tokens: &[Token], place: usize) -> Result<(Arm, &[Token]), TextError>
-    ensures { Gives (λ x. (x.0, x.1.now)) result (arm_in place tokens.now) }
+#[tactic(auto, unfolding(crate::specs::BodyParsing::arm_in))]
+fn arm(tokens: &[Token], index: usize) -> Result<(Arm, &[Token]), TextError>
+    ensures { Gives (λ x. (x.0, x.1.now)) result (arm_in index tokens.now) }
 {
     let (number, rest) = number(tokens)?;
-    let rest = past_mark(Mark::FatArrow, rest)?;
+    let rest = past_punct(Punct::FatArrow, rest)?;
     let (label, rest) = label(rest)?;
-    let rest = past_mark(Mark::Comma, rest)?;
+    let rest = past_punct(Punct::Comma, rest)?;
     Ok((Arm { number, label }, rest))
 }
 
-#[tactic(auto, unfolding(crate::specs::Parsing::arms_in))]
+#[tactic(auto, unfolding(crate::specs::BodyParsing::arms_in))]
 fn arms(alloc: Global, tokens: &[Token]) -> Result<(Items<Arm>, &[Token]), TextError>
     ensures { Gives (λ x. (x.0, x.1.now)) result (arms_in tokens.now) }
 {
     let mut arms = Items::new(alloc);
     let mut rest = tokens;
-    'each: for place in 0..tokens.len() {
+    'each: for index in 0..tokens.len() {
         if !starts_number(rest) {
             break;
         }
-        let (arm, after) = arm(rest, place)?;
+        let (arm, after) = arm(rest, index)?;
         arms.push(arm)?;
         rest = after;
     }
     Ok((arms, rest))
 }
 
-#[tactic(auto, unfolding(crate::specs::Parsing::switch_in))]
+#[tactic(auto, unfolding(crate::specs::BodyParsing::switch_in))]
 fn switch(alloc: Global, tokens: &[Token]) -> Result<(Switch, &[Token]), TextError>
     ensures { Gives (λ x. (x.0, x.1.now)) result (switch_in tokens.now) }
 {
     let rest = past_word(Word::Switch, tokens)?;
     let (operand, rest) = operand(rest)?;
-    let rest = past_mark(Mark::OpenBrace, rest)?;
+    let rest = past_punct(Punct::OpenBrace, rest)?;
     let (arms, rest) = arms(alloc, rest)?;
     let rest = past_word(Word::Else, rest)?;
-    let rest = past_mark(Mark::FatArrow, rest)?;
+    let rest = past_punct(Punct::FatArrow, rest)?;
     let (otherwise, rest) = label(rest)?;
-    let rest = past_mark(Mark::CloseBrace, rest)?;
+    let rest = past_punct(Punct::CloseBrace, rest)?;
     Ok((
         Switch {
             operand,
@@ -85,8 +85,8 @@ fn switch(alloc: Global, tokens: &[Token]) -> Result<(Switch, &[Token]), TextErr
     ))
 }
 
-/// The block that `goto` leads to.
-#[tactic(auto, unfolding(crate::specs::Parsing::target_label_in))]
+/// The block that `goto` resolves to.
+#[tactic(auto, unfolding(crate::specs::BodyParsing::target_label_in))]
 fn target_label(tokens: &[Token]) -> Result<(Label, &[Token]), TextError>
     ensures { Gives (λ x. (x.0, x.1.now)) result (target_label_in tokens.now) }
 {
@@ -95,7 +95,7 @@ fn target_label(tokens: &[Token]) -> Result<(Label, &[Token]), TextError>
 }
 
 /// An end that is a word alone.
-#[tactic(auto, unfolding(crate::specs::Parsing::bare_end_in))]
+#[tactic(auto, unfolding(crate::specs::BodyParsing::bare_end_in))]
 fn bare_end(word: Word, end: End, tokens: &[Token]) -> Result<(End, &[Token]), TextError>
     ensures { Gives (λ x. (x.0, x.1.now)) result (bare_end_in word end tokens.now) }
 {
@@ -104,7 +104,7 @@ fn bare_end(word: Word, end: End, tokens: &[Token]) -> Result<(End, &[Token]), T
 }
 
 /// The end of a block.
-#[tactic(auto, unfolding(crate::specs::Parsing::end_in))]
+#[tactic(auto, unfolding(crate::specs::BodyParsing::end_in))]
 pub fn end(alloc: Global, tokens: &[Token]) -> Result<(End, &[Token]), TextError>
     ensures { Gives (λ x. (x.0, x.1.now)) result (end_in tokens.now) }
 {

@@ -5,9 +5,9 @@ ghost use Rattle.mm_parse.specs.Parsing.{public_in, function_in, entry_in, item_
 use crate::ast::{Form, Function, Item, Name};
 use crate::body::body;
 use crate::names::type_params;
-use crate::pieces::{name, past_mark, past_word, place, starts_word};
+use crate::pieces::{name, past_punct, past_word, position, starts_word};
 use crate::types::{params, result_type};
-use mm_lex::{Mark, TextError, Token, Word};
+use mm_lex::{Punct, TextError, Token, Word};
 use sqlite_items::Items;
 use std::alloc::Global;
 
@@ -48,7 +48,7 @@ fn function(alloc: Global, tokens: &[Token]) -> Result<((Name, Function), &[Toke
     Ok(((name, function), rest))
 }
 
-/// What stands behind the place of an item, in which modules nest no deeper than so many levels.
+/// What stands behind the position of an item, in which modules nest no deeper than so many levels.
 #[cycle(items)]
 #[tactic(auto, unfolding(crate::specs::Parsing::entry_in))]
 fn entry(
@@ -76,7 +76,7 @@ fn item(
 ) -> Result<(Item, &[Token]), TextError>
     ensures { Gives (λ x. (x.0, x.1.now)) result (item_in (module_within_in levels) number tokens.now) }
 {
-    let at = place(tokens)?;
+    let at = position(tokens)?;
     let ((name, form, items), rest) = entry(alloc, levels, tokens)?;
     Ok((
         Item {
@@ -104,11 +104,11 @@ fn items(alloc: Global, levels: u32, tokens: &[Token]) -> Result<(Items<Item>, &
 {
     let mut items = Items::new(alloc);
     let mut rest = tokens;
-    'each: for place in 0..tokens.len() {
+    'each: for index in 0..tokens.len() {
         if !begins_item(rest) {
             break;
         }
-        let (item, after) = item(alloc, levels, rest, place)?;
+        let (item, after) = item(alloc, levels, rest, index)?;
         items.push(item)?;
         rest = after;
     }
@@ -127,9 +127,9 @@ fn module(
 {
     let rest = past_word(Word::Mod, tokens)?;
     let (name, rest) = name(alloc, rest)?;
-    let rest = past_mark(Mark::OpenBrace, rest)?;
+    let rest = past_punct(Punct::OpenBrace, rest)?;
     let (items, rest) = items(alloc, levels, rest)?;
-    let rest = past_mark(Mark::CloseBrace, rest)?;
+    let rest = past_punct(Punct::CloseBrace, rest)?;
     Ok(((name, items), rest))
 }
 

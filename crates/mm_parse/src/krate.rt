@@ -7,18 +7,18 @@ ghost use Rattle.mm_lex.specs.declared.token.Token.{Token};
 
 use crate::ast::Crate;
 use crate::items::all_items;
-use crate::pieces::{past_mark, past_word, place, text};
-use mm_lex::{Mark, TextError, Token, Word};
+use crate::pieces::{past_punct, past_word, position, text};
+use mm_lex::{Punct, TextError, Token, Word};
 use std::alloc::Global;
 
 #[tactic(auto, unfolding(crate::specs::Parsing::crate_in))]
 fn krate(alloc: Global, tokens: &[Token]) -> Result<(Crate, &[Token]), TextError>
     ensures { Gives (λ x. (x.0, x.1.now)) result (crate_in tokens.now) }
 {
-    let at = place(tokens)?;
+    let at = position(tokens)?;
     let rest = past_word(Word::Crate, tokens)?;
     let (name, rest) = text(alloc, rest)?;
-    let rest = past_mark(Mark::Semicolon, rest)?;
+    let rest = past_punct(Punct::Semicolon, rest)?;
     let (items, rest) = all_items(alloc, rest)?;
     Ok((Crate { at, name, items }, rest))
 }

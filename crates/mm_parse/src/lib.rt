@@ -1,4 +1,4 @@
-//! Reading tokens into a tree. Each function reads one part from the front, as its rule in the grammar says.
+//! Reading tokens into a tree. Each function reads one part from the head of the tokens, as its rule in the grammar says.
 #![tactic(auto)]
 
 pub mod ast;

@@ -1,17 +1,17 @@
 ghost use Rattle.std.specs.Prelude.{◌≡◌};
 ghost use Rattle.mm_parse.specs.Given.{Gives};
-ghost use Rattle.mm_parse.specs.Parsing.{used_in, starts_operand, operand_in, next_operand_in, more_operands_in, some_operands_in, ops_in};
+ghost use Rattle.mm_parse.specs.BodyParsing.{used_in, starts_operand, operand_in, next_operand_in, more_operands_in, some_operands_in, ops_in};
 
 use crate::ast::{Local, Operand};
 use crate::pieces::{
-    local, number, past_mark, past_word, single, starts_mark, starts_number, starts_word,
+    local, number, past_punct, past_word, single, starts_number, starts_punct, starts_word,
 };
-use mm_lex::{Mark, TextError, Token, Word};
+use mm_lex::{Punct, TextError, Token, Word};
 use sqlite_items::Items;
 use std::alloc::Global;
 
 /// A local behind the word that says how it is used.
-#[tactic(auto, unfolding(crate::specs::Parsing::used_in))]
+#[tactic(auto, unfolding(crate::specs::BodyParsing::used_in))]
 fn used(word: Word, tokens: &[Token]) -> Result<(Local, &[Token]), TextError>
     ensures { Gives (λ x. (x.0, x.1.now)) result (used_in word tokens.now) }
 {
@@ -30,7 +30,7 @@ pub fn starts_operand(tokens: &[Token]) -> bool
         || starts_number(tokens)
 }
 
-#[tactic(auto, unfolding(crate::specs::Parsing::operand_in))]
+#[tactic(auto, unfolding(crate::specs::BodyParsing::operand_in))]
 pub fn operand(tokens: &[Token]) -> Result<(Operand, &[Token]), TextError>
     ensures { Gives (λ x. (x.0, x.1.now)) result (operand_in tokens.now) }
 {
@@ -54,15 +54,15 @@ pub fn operand(tokens: &[Token]) -> Result<(Operand, &[Token]), TextError>
     Ok((Operand::Number(number), rest))
 }
 
-#[tactic(auto, unfolding(crate::specs::Parsing::next_operand_in))]
-fn next_operand(tokens: &[Token], place: usize) -> Result<(Operand, &[Token]), TextError>
-    ensures { Gives (λ x. (x.0, x.1.now)) result (next_operand_in place tokens.now) }
+#[tactic(auto, unfolding(crate::specs::BodyParsing::next_operand_in))]
+fn next_operand(tokens: &[Token], index: usize) -> Result<(Operand, &[Token]), TextError>
+    ensures { Gives (λ x. (x.0, x.1.now)) result (next_operand_in index tokens.now) }
 {
-    let rest = past_mark(Mark::Comma, tokens)?;
+    let rest = past_punct(Punct::Comma, tokens)?;
     operand(rest)
 }
 
-#[tactic(auto, unfolding(crate::specs::Parsing::more_operands_in))]
+#[tactic(auto, unfolding(crate::specs::BodyParsing::more_operands_in))]
 fn more_operands(
     alloc: Global,
     first: Operand,
@@ -72,18 +72,18 @@ fn more_operands(
 {
     let mut operands = single(alloc, first)?;
     let mut rest = tokens;
-    'each: for place in 0..tokens.len() {
-        if !starts_mark(Mark::Comma, rest) {
+    'each: for index in 0..tokens.len() {
+        if !starts_punct(Punct::Comma, rest) {
             break;
         }
-        let (operand, after) = next_operand(rest, place)?;
+        let (operand, after) = next_operand(rest, index)?;
         operands.push(operand)?;
         rest = after;
     }
     Ok((operands, rest))
 }
 
-#[tactic(auto, unfolding(crate::specs::Parsing::some_operands_in))]
+#[tactic(auto, unfolding(crate::specs::BodyParsing::some_operands_in))]
 fn some_operands(alloc: Global, tokens: &[Token]) -> Result<(Items<Operand>, &[Token]), TextError>
     ensures { Gives (λ x. (x.0, x.1.now)) result (some_operands_in tokens.now) }
 {
@@ -92,16 +92,16 @@ fn some_operands(alloc: Global, tokens: &[Token]) -> Result<(Items<Operand>, &[T
 }
 
 /// The operands of a call in parentheses.
-#[tactic(auto, unfolding(crate::specs::Parsing::ops_in))]
+#[tactic(auto, unfolding(crate::specs::BodyParsing::ops_in))]
 pub fn operands(alloc: Global, tokens: &[Token]) -> Result<(Items<Operand>, &[Token]), TextError>
     ensures { Gives (λ x. (x.0, x.1.now)) result (ops_in tokens.now) }
 {
-    let rest = past_mark(Mark::Open, tokens)?;
-    if starts_mark(Mark::Close, rest) {
-        let rest = past_mark(Mark::Close, rest)?;
+    let rest = past_punct(Punct::Open, tokens)?;
+    if starts_punct(Punct::Close, rest) {
+        let rest = past_punct(Punct::Close, rest)?;
         return Ok((Items::new(alloc), rest));
     }
     let (operands, rest) = some_operands(alloc, rest)?;
-    let rest = past_mark(Mark::Close, rest)?;
+    let rest = past_punct(Punct::Close, rest)?;
     Ok((operands, rest))
 }

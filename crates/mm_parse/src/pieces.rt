@@ -1,10 +1,10 @@
 ghost use Rattle.std.specs.Prelude.{◌≡◌, ◌+◌, [], ◌∷◌, MatchOption, IfOk, eqb};
 ghost use Rattle.mm_parse.specs.Codes.{word_code};
 ghost use Rattle.mm_parse.specs.Given.{Gives};
-ghost use Rattle.mm_parse.specs.Parsing.{is_word, is_mark, is_local, is_label, is_any_label, is_any_local, is_number, starts, past, place_in, value_in, text_of, local_of, label_of, number_of, name_in, local_in, label_in};
+ghost use Rattle.mm_parse.specs.TokenParsing.{is_word, is_punct, is_local, is_label, is_any_label, is_any_local, is_number, starts, past, position_in, value_in, text_of, local_of, label_of, number_of, name_in, local_in, label_in};
 
 use crate::ast::{Label, Local, Name};
-use mm_lex::{Mark, Place, TextError, Token, TokenKind, Word};
+use mm_lex::{Position, Punct, TextError, Token, TokenKind, Word};
 use mm_terms::Text;
 use sqlite_items::Items;
 use std::alloc::{AllocError, Global};
@@ -22,11 +22,11 @@ fn same_word(found: Word, word: Word) -> bool
     found == word
 }
 
-/// Whether the number is `1 + params + place`.
-fn stands_behind(number: usize, params: usize, place: usize) -> bool
-    ensures { result ≡ eqb number (1 + (params + place)) }
+/// Whether the number is `1 + params + index`.
+fn stands_behind(number: usize, params: usize, index: usize) -> bool
+    ensures { result ≡ eqb number (1 + (params + index)) }
 {
-    params < number && number - params - 1 == place
+    params < number && number - params - 1 == index
 }
 
 fn is_word(kind: &TokenKind, word: Word) -> bool
@@ -38,21 +38,21 @@ fn is_word(kind: &TokenKind, word: Word) -> bool
     }
 }
 
-fn is_mark(kind: &TokenKind, mark: Mark) -> bool
-    ensures { result ≡ is_mark mark kind.now }
+fn is_punct(kind: &TokenKind, punct: Punct) -> bool
+    ensures { result ≡ is_punct punct kind.now }
 {
     match kind {
-        TokenKind::Mark(found) => *found == mark,
+        TokenKind::Punct(found) => *found == punct,
         _ => false,
     }
 }
 
-/// Whether it is the local with the number `1 + params + place`.
-fn is_local_behind(kind: &TokenKind, params: usize, place: usize) -> bool
-    ensures { result ≡ is_local (1 + (params + place)) kind.now }
+/// Whether it is the local with the number `1 + params + index`.
+fn is_local_behind(kind: &TokenKind, params: usize, index: usize) -> bool
+    ensures { result ≡ is_local (1 + (params + index)) kind.now }
 {
     match kind {
-        TokenKind::Local(found) => stands_behind(*found as usize, params, place),
+        TokenKind::Local(found) => stands_behind(*found as usize, params, index),
         _ => false,
     }
 }
@@ -93,11 +93,11 @@ pub fn starts_word(word: Word, tokens: &[Token]) -> bool
     }
 }
 
-pub fn starts_mark(mark: Mark, tokens: &[Token]) -> bool
-    ensures { result ≡ starts (is_mark mark) tokens.now }
+pub fn starts_punct(punct: Punct, tokens: &[Token]) -> bool
+    ensures { result ≡ starts (is_punct punct) tokens.now }
 {
     match next(tokens) {
-        Some((token, _)) => is_mark(&token.kind, mark),
+        Some((token, _)) => is_punct(&token.kind, punct),
         None => false,
     }
 }
@@ -140,25 +140,25 @@ pub fn past_word(word: Word, tokens: &[Token]) -> Result<&[Token], TextError>
     }
 }
 
-pub fn past_mark(mark: Mark, tokens: &[Token]) -> Result<&[Token], TextError>
-    ensures { Gives (λ rest. rest.now) result (past (is_mark mark) tokens.now) }
+pub fn past_punct(punct: Punct, tokens: &[Token]) -> Result<&[Token], TextError>
+    ensures { Gives (λ rest. rest.now) result (past (is_punct punct) tokens.now) }
 {
     match next(tokens) {
-        Some((token, rest)) if is_mark(&token.kind, mark) => Ok(rest),
+        Some((token, rest)) if is_punct(&token.kind, punct) => Ok(rest),
         _ => Err(TextError::BadText),
     }
 }
 
-/// Past the local with the number `1 + params + place`.
+/// Past the local with the number `1 + params + index`.
 pub fn past_local_behind(
     params: usize,
-    place: usize,
+    index: usize,
     tokens: &[Token],
 ) -> Result<&[Token], TextError>
-    ensures { Gives (λ rest. rest.now) result (past (is_local (1 + (params + place))) tokens.now) }
+    ensures { Gives (λ rest. rest.now) result (past (is_local (1 + (params + index))) tokens.now) }
 {
     match next(tokens) {
-        Some((token, rest)) if is_local_behind(&token.kind, params, place) => Ok(rest),
+        Some((token, rest)) if is_local_behind(&token.kind, params, index) => Ok(rest),
         _ => Err(TextError::BadText),
     }
 }
@@ -172,9 +172,9 @@ pub fn past_label(number: usize, tokens: &[Token]) -> Result<&[Token], TextError
     }
 }
 
-/// The place of the first token.
-pub fn place(tokens: &[Token]) -> Result<Place, TextError>
-    ensures { Gives (λ at. at) result (place_in tokens.now) }
+/// The position of the first token.
+pub fn position(tokens: &[Token]) -> Result<Position, TextError>
+    ensures { Gives (λ at. at) result (position_in tokens.now) }
 {
     match next(tokens) {
         Some((token, _)) => Ok(token.at),
@@ -231,29 +231,29 @@ fn label_number(tokens: &[Token]) -> Result<(u32, &[Token]), TextError>
     }
 }
 
-#[tactic(auto, unfolding(crate::specs::Parsing::name_in))]
+#[tactic(auto, unfolding(crate::specs::TokenParsing::name_in))]
 pub fn name(alloc: Global, tokens: &[Token]) -> Result<(Name, &[Token]), TextError>
     ensures { Gives (λ x. (x.0, x.1.now)) result (name_in tokens.now) }
 {
-    let at = place(tokens)?;
+    let at = position(tokens)?;
     let (text, rest) = text(alloc, tokens)?;
     Ok((Name { at, text }, rest))
 }
 
-#[tactic(auto, unfolding(crate::specs::Parsing::local_in))]
+#[tactic(auto, unfolding(crate::specs::TokenParsing::local_in))]
 pub fn local(tokens: &[Token]) -> Result<(Local, &[Token]), TextError>
     ensures { Gives (λ x. (x.0, x.1.now)) result (local_in tokens.now) }
 {
-    let at = place(tokens)?;
+    let at = position(tokens)?;
     let (number, rest) = local_number(tokens)?;
     Ok((Local { at, number }, rest))
 }
 
-#[tactic(auto, unfolding(crate::specs::Parsing::label_in))]
+#[tactic(auto, unfolding(crate::specs::TokenParsing::label_in))]
 pub fn label(tokens: &[Token]) -> Result<(Label, &[Token]), TextError>
     ensures { Gives (λ x. (x.0, x.1.now)) result (label_in tokens.now) }
 {
-    let at = place(tokens)?;
+    let at = position(tokens)?;
     let (number, rest) = label_number(tokens)?;
     Ok((Label { at, number }, rest))
 }

@@ -1,16 +1,16 @@
 ghost use Rattle.std.specs.Prelude.{◌≡◌};
 ghost use Rattle.mm_parse.specs.Given.{Gives};
-ghost use Rattle.mm_parse.specs.Parsing.{op_of_in, op_in, negated_in, binary_in, rvalue_in, set_in, printed_in, statement_in, ended_statement_in, starts_statement, statements_in};
+ghost use Rattle.mm_parse.specs.BodyParsing.{op_of_in, op_in, negated_in, binary_in, rvalue_in, set_in, printed_in, statement_in, ended_statement_in, starts_statement, statements_in};
 
 use crate::ast::{Local, Op, Operand, Rvalue, Statement};
 use crate::operands::{operand, starts_operand};
-use crate::pieces::{local, past_mark, past_word, starts_local, starts_word};
-use mm_lex::{Mark, TextError, Token, Word};
+use crate::pieces::{local, past_punct, past_word, starts_local, starts_word};
+use mm_lex::{Punct, TextError, Token, Word};
 use sqlite_items::Items;
 use std::alloc::Global;
 
 /// The operation with this word.
-#[tactic(auto, unfolding(crate::specs::Parsing::op_of_in))]
+#[tactic(auto, unfolding(crate::specs::BodyParsing::op_of_in))]
 fn op_of(word: Word, op: Op, tokens: &[Token]) -> Result<(Op, &[Token]), TextError>
     ensures { Gives (λ x. (x.0, x.1.now)) result (op_of_in word op tokens.now) }
 {
@@ -18,7 +18,7 @@ fn op_of(word: Word, op: Op, tokens: &[Token]) -> Result<(Op, &[Token]), TextErr
     Ok((op, rest))
 }
 
-#[tactic(auto, unfolding(crate::specs::Parsing::op_in))]
+#[tactic(auto, unfolding(crate::specs::BodyParsing::op_in))]
 fn op(tokens: &[Token]) -> Result<(Op, &[Token]), TextError>
     ensures { Gives (λ x. (x.0, x.1.now)) result (op_in tokens.now) }
 {
@@ -44,31 +44,31 @@ fn op(tokens: &[Token]) -> Result<(Op, &[Token]), TextError>
 }
 
 /// The operand of `not`.
-#[tactic(auto, unfolding(crate::specs::Parsing::negated_in))]
+#[tactic(auto, unfolding(crate::specs::BodyParsing::negated_in))]
 fn negated(tokens: &[Token]) -> Result<(Operand, &[Token]), TextError>
     ensures { Gives (λ x. (x.0, x.1.now)) result (negated_in tokens.now) }
 {
     let rest = past_word(Word::Not, tokens)?;
-    let rest = past_mark(Mark::Open, rest)?;
+    let rest = past_punct(Punct::Open, rest)?;
     let (operand, rest) = operand(rest)?;
-    let rest = past_mark(Mark::Close, rest)?;
+    let rest = past_punct(Punct::Close, rest)?;
     Ok((operand, rest))
 }
 
-#[tactic(auto, unfolding(crate::specs::Parsing::binary_in))]
+#[tactic(auto, unfolding(crate::specs::BodyParsing::binary_in))]
 fn binary(tokens: &[Token]) -> Result<((Op, Operand, Operand), &[Token]), TextError>
     ensures { Gives (λ x. (x.0, x.1.now)) result (binary_in tokens.now) }
 {
     let (op, rest) = op(tokens)?;
-    let rest = past_mark(Mark::Open, rest)?;
+    let rest = past_punct(Punct::Open, rest)?;
     let (left, rest) = operand(rest)?;
-    let rest = past_mark(Mark::Comma, rest)?;
+    let rest = past_punct(Punct::Comma, rest)?;
     let (right, rest) = operand(rest)?;
-    let rest = past_mark(Mark::Close, rest)?;
+    let rest = past_punct(Punct::Close, rest)?;
     Ok(((op, left, right), rest))
 }
 
-#[tactic(auto, unfolding(crate::specs::Parsing::rvalue_in))]
+#[tactic(auto, unfolding(crate::specs::BodyParsing::rvalue_in))]
 fn rvalue(tokens: &[Token]) -> Result<(Rvalue, &[Token]), TextError>
     ensures { Gives (λ x. (x.0, x.1.now)) result (rvalue_in tokens.now) }
 {
@@ -85,18 +85,18 @@ fn rvalue(tokens: &[Token]) -> Result<(Rvalue, &[Token]), TextError>
 }
 
 /// A local and what is written into it.
-#[tactic(auto, unfolding(crate::specs::Parsing::set_in))]
+#[tactic(auto, unfolding(crate::specs::BodyParsing::set_in))]
 fn set(tokens: &[Token]) -> Result<((Local, Rvalue), &[Token]), TextError>
     ensures { Gives (λ x. (x.0, x.1.now)) result (set_in tokens.now) }
 {
     let (local, rest) = local(tokens)?;
-    let rest = past_mark(Mark::Equals, rest)?;
+    let rest = past_punct(Punct::Equals, rest)?;
     let (rvalue, rest) = rvalue(rest)?;
     Ok(((local, rvalue), rest))
 }
 
 /// The operand that is printed.
-#[tactic(auto, unfolding(crate::specs::Parsing::printed_in))]
+#[tactic(auto, unfolding(crate::specs::BodyParsing::printed_in))]
 fn printed(tokens: &[Token]) -> Result<(Operand, &[Token]), TextError>
     ensures { Gives (λ x. (x.0, x.1.now)) result (printed_in tokens.now) }
 {
@@ -104,7 +104,7 @@ fn printed(tokens: &[Token]) -> Result<(Operand, &[Token]), TextError>
     operand(rest)
 }
 
-#[tactic(auto, unfolding(crate::specs::Parsing::statement_in))]
+#[tactic(auto, unfolding(crate::specs::BodyParsing::statement_in))]
 fn statement(tokens: &[Token]) -> Result<(Statement, &[Token]), TextError>
     ensures { Gives (λ x. (x.0, x.1.now)) result (statement_in tokens.now) }
 {
@@ -117,12 +117,12 @@ fn statement(tokens: &[Token]) -> Result<(Statement, &[Token]), TextError>
 }
 
 /// A statement and its semicolon.
-#[tactic(auto, unfolding(crate::specs::Parsing::ended_statement_in))]
-fn ended_statement(tokens: &[Token], place: usize) -> Result<(Statement, &[Token]), TextError>
-    ensures { Gives (λ x. (x.0, x.1.now)) result (ended_statement_in place tokens.now) }
+#[tactic(auto, unfolding(crate::specs::BodyParsing::ended_statement_in))]
+fn ended_statement(tokens: &[Token], index: usize) -> Result<(Statement, &[Token]), TextError>
+    ensures { Gives (λ x. (x.0, x.1.now)) result (ended_statement_in index tokens.now) }
 {
     let (statement, rest) = statement(tokens)?;
-    let rest = past_mark(Mark::Semicolon, rest)?;
+    let rest = past_punct(Punct::Semicolon, rest)?;
     Ok((statement, rest))
 }
 
@@ -133,7 +133,7 @@ fn begins_statement(tokens: &[Token]) -> bool
 }
 
 /// The statements of a block.
-#[tactic(auto, unfolding(crate::specs::Parsing::statements_in))]
+#[tactic(auto, unfolding(crate::specs::BodyParsing::statements_in))]
 pub fn statements(
     alloc: Global,
     tokens: &[Token],
@@ -142,11 +142,11 @@ pub fn statements(
 {
     let mut statements = Items::new(alloc);
     let mut rest = tokens;
-    'each: for place in 0..tokens.len() {
+    'each: for index in 0..tokens.len() {
         if !begins_statement(rest) {
             break;
         }
-        let (statement, after) = ended_statement(rest, place)?;
+        let (statement, after) = ended_statement(rest, index)?;
         statements.push(statement)?;
         rest = after;
     }

@@ -1,9 +1,9 @@
 ghost use Rattle.mm_parse.specs.Given.{Gives};
-ghost use Rattle.mm_parse.specs.Parsing.{within_in, node_in, shape_in, leaf_in, param_in, reference_in, boxed_in, tuple_in, parts_in, types_in, more_types_in, next_type_in, ty_in, all_types_in, some_args_in, args_in, next_param_in, more_params_in, some_params_in, params_in, written_result_in, result_in};
+ghost use Rattle.mm_parse.specs.TypeParsing.{within_in, node_in, shape_in, leaf_in, param_in, reference_in, boxed_in, tuple_in, parts_in, types_in, more_types_in, next_type_in, ty_in, all_types_in, some_args_in, args_in, next_param_in, more_params_in, some_params_in, params_in, written_result_in, result_in};
 
 use crate::ast::{Head, Type};
-use crate::pieces::{past_mark, past_word, place, single, starts_mark, starts_word, text};
-use mm_lex::{Mark, TextError, Token, Word};
+use crate::pieces::{past_punct, past_word, position, single, starts_punct, starts_word, text};
+use mm_lex::{Punct, TextError, Token, Word};
 use sqlite_items::Items;
 use std::alloc::Global;
 
@@ -26,18 +26,18 @@ fn within(alloc: Global, levels: u32, tokens: &[Token]) -> Result<(Type, &[Token
 
 /// A type whose parts nest no deeper than so many levels.
 #[cycle(types)]
-#[tactic(auto, unfolding(crate::specs::Parsing::node_in))]
+#[tactic(auto, unfolding(crate::specs::TypeParsing::node_in))]
 fn node(alloc: Global, levels: u32, tokens: &[Token]) -> Result<(Type, &[Token]), TextError>
     ensures { Gives (λ x. (x.0, x.1.now)) result (node_in (within_in levels) tokens.now) }
 {
-    let at = place(tokens)?;
+    let at = position(tokens)?;
     let ((head, children), rest) = shape(alloc, levels, tokens)?;
     Ok((Type { at, head, children }, rest))
 }
 
 /// The head of a type and the types below it, which nest no deeper than so many levels.
 #[cycle(types)]
-#[tactic(auto, unfolding(crate::specs::Parsing::shape_in))]
+#[tactic(auto, unfolding(crate::specs::TypeParsing::shape_in))]
 fn shape(
     alloc: Global,
     levels: u32,
@@ -51,19 +51,19 @@ fn shape(
     if starts_word(Word::Bool, tokens) {
         return leaf(alloc, Word::Bool, Head::Bool, tokens);
     }
-    if starts_mark(Mark::Ampersand, tokens) {
+    if starts_punct(Punct::Ampersand, tokens) {
         return reference(alloc, levels, tokens);
     }
     if starts_word(Word::BoxType, tokens) {
         return boxed(alloc, levels, tokens);
     }
-    if starts_mark(Mark::Open, tokens) {
+    if starts_punct(Punct::Open, tokens) {
         return tuple(alloc, levels, tokens);
     }
     param(alloc, tokens)
 }
 
-#[tactic(auto, unfolding(crate::specs::Parsing::leaf_in))]
+#[tactic(auto, unfolding(crate::specs::TypeParsing::leaf_in))]
 fn leaf(
     alloc: Global,
     word: Word,
@@ -76,7 +76,7 @@ fn leaf(
     Ok(((head, Items::new(alloc)), rest))
 }
 
-#[tactic(auto, unfolding(crate::specs::Parsing::param_in))]
+#[tactic(auto, unfolding(crate::specs::TypeParsing::param_in))]
 fn param(alloc: Global, tokens: &[Token]) -> Result<((Head, Items<Type>), &[Token]), TextError>
     ensures { Gives (λ x. (x.0, x.1.now)) result (param_in tokens.now) }
 {
@@ -85,7 +85,7 @@ fn param(alloc: Global, tokens: &[Token]) -> Result<((Head, Items<Type>), &[Toke
 }
 
 #[cycle(types)]
-#[tactic(auto, unfolding(crate::specs::Parsing::reference_in))]
+#[tactic(auto, unfolding(crate::specs::TypeParsing::reference_in))]
 fn reference(
     alloc: Global,
     levels: u32,
@@ -93,13 +93,13 @@ fn reference(
 ) -> Result<((Head, Items<Type>), &[Token]), TextError>
     ensures { Gives (λ x. (x.0, x.1.now)) result (reference_in (within_in levels) tokens.now) }
 {
-    let rest = past_mark(Mark::Ampersand, tokens)?;
+    let rest = past_punct(Punct::Ampersand, tokens)?;
     let (target, rest) = within(alloc, levels, rest)?;
     Ok(((Head::Ref, single(alloc, target)?), rest))
 }
 
 #[cycle(types)]
-#[tactic(auto, unfolding(crate::specs::Parsing::boxed_in))]
+#[tactic(auto, unfolding(crate::specs::TypeParsing::boxed_in))]
 fn boxed(
     alloc: Global,
     levels: u32,
@@ -108,14 +108,14 @@ fn boxed(
     ensures { Gives (λ x. (x.0, x.1.now)) result (boxed_in (within_in levels) tokens.now) }
 {
     let rest = past_word(Word::BoxType, tokens)?;
-    let rest = past_mark(Mark::Less, rest)?;
+    let rest = past_punct(Punct::Less, rest)?;
     let (content, rest) = within(alloc, levels, rest)?;
-    let rest = past_mark(Mark::Greater, rest)?;
+    let rest = past_punct(Punct::Greater, rest)?;
     Ok(((Head::Boxed, single(alloc, content)?), rest))
 }
 
 #[cycle(types)]
-#[tactic(auto, unfolding(crate::specs::Parsing::tuple_in, crate::specs::Parsing::parts_in))]
+#[tactic(auto, unfolding(crate::specs::TypeParsing::tuple_in, crate::specs::TypeParsing::parts_in))]
 fn tuple(
     alloc: Global,
     levels: u32,
@@ -123,21 +123,21 @@ fn tuple(
 ) -> Result<((Head, Items<Type>), &[Token]), TextError>
     ensures { Gives (λ x. (x.0, x.1.now)) result (tuple_in (within_in levels) tokens.now) }
 {
-    let rest = past_mark(Mark::Open, tokens)?;
-    if starts_mark(Mark::Close, rest) {
-        let rest = past_mark(Mark::Close, rest)?;
+    let rest = past_punct(Punct::Open, tokens)?;
+    if starts_punct(Punct::Close, rest) {
+        let rest = past_punct(Punct::Close, rest)?;
         return Ok(((Head::Tuple, Items::new(alloc)), rest));
     }
     let (parts, rest) = types(alloc, levels, rest)?;
     if parts.len() < 2 {
         return Err(TextError::BadText);
     }
-    let rest = past_mark(Mark::Close, rest)?;
+    let rest = past_punct(Punct::Close, rest)?;
     Ok(((Head::Tuple, parts), rest))
 }
 
 #[cycle(types)]
-#[tactic(auto, unfolding(crate::specs::Parsing::types_in))]
+#[tactic(auto, unfolding(crate::specs::TypeParsing::types_in))]
 fn types(alloc: Global, levels: u32, tokens: &[Token]) -> Result<(Items<Type>, &[Token]), TextError>
     ensures { Gives (λ x. (x.0, x.1.now)) result (types_in (within_in levels) tokens.now) }
 {
@@ -146,7 +146,7 @@ fn types(alloc: Global, levels: u32, tokens: &[Token]) -> Result<(Items<Type>, &
 }
 
 #[cycle(types)]
-#[tactic(auto, unfolding(crate::specs::Parsing::more_types_in))]
+#[tactic(auto, unfolding(crate::specs::TypeParsing::more_types_in))]
 fn more_types(
     alloc: Global,
     levels: u32,
@@ -157,11 +157,11 @@ fn more_types(
 {
     let mut types = single(alloc, first)?;
     let mut rest = tokens;
-    'each: for place in 0..tokens.len() {
-        if !starts_mark(Mark::Comma, rest) {
+    'each: for index in 0..tokens.len() {
+        if !starts_punct(Punct::Comma, rest) {
             break;
         }
-        let (ty, after) = next_type(alloc, levels, rest, place)?;
+        let (ty, after) = next_type(alloc, levels, rest, index)?;
         types.push(ty)?;
         rest = after;
     }
@@ -169,68 +169,68 @@ fn more_types(
 }
 
 #[cycle(types)]
-#[tactic(auto, unfolding(crate::specs::Parsing::next_type_in))]
+#[tactic(auto, unfolding(crate::specs::TypeParsing::next_type_in))]
 fn next_type(
     alloc: Global,
     levels: u32,
     tokens: &[Token],
-    place: usize,
+    index: usize,
 ) -> Result<(Type, &[Token]), TextError>
-    ensures { Gives (λ x. (x.0, x.1.now)) result (next_type_in (within_in levels) place tokens.now) }
+    ensures { Gives (λ x. (x.0, x.1.now)) result (next_type_in (within_in levels) index tokens.now) }
 {
-    let rest = past_mark(Mark::Comma, tokens)?;
+    let rest = past_punct(Punct::Comma, tokens)?;
     within(alloc, levels, rest)
 }
 
 /// A type.
-#[tactic(auto, unfolding(crate::specs::Parsing::ty_in))]
+#[tactic(auto, unfolding(crate::specs::TypeParsing::ty_in))]
 pub fn ty(alloc: Global, tokens: &[Token]) -> Result<(Type, &[Token]), TextError>
     ensures { Gives (λ x. (x.0, x.1.now)) result (ty_in tokens.now) }
 {
     within(alloc, NESTED_MOST, tokens)
 }
 
-#[tactic(auto, unfolding(crate::specs::Parsing::all_types_in, crate::specs::Parsing::ty_in))]
+#[tactic(auto, unfolding(crate::specs::TypeParsing::all_types_in, crate::specs::TypeParsing::ty_in))]
 fn all_types(alloc: Global, tokens: &[Token]) -> Result<(Items<Type>, &[Token]), TextError>
     ensures { Gives (λ x. (x.0, x.1.now)) result (all_types_in tokens.now) }
 {
     types(alloc, NESTED_MOST, tokens)
 }
 
-#[tactic(auto, unfolding(crate::specs::Parsing::some_args_in))]
+#[tactic(auto, unfolding(crate::specs::TypeParsing::some_args_in))]
 fn some_args(alloc: Global, tokens: &[Token]) -> Result<(Items<Type>, &[Token]), TextError>
     ensures { Gives (λ x. (x.0, x.1.now)) result (some_args_in tokens.now) }
 {
-    let rest = past_mark(Mark::Less, tokens)?;
+    let rest = past_punct(Punct::Less, tokens)?;
     let (types, rest) = all_types(alloc, rest)?;
-    let rest = past_mark(Mark::Greater, rest)?;
+    let rest = past_punct(Punct::Greater, rest)?;
     Ok((types, rest))
 }
 
 /// The type arguments of a path, where there are any.
-#[tactic(auto, unfolding(crate::specs::Parsing::args_in))]
+#[tactic(auto, unfolding(crate::specs::TypeParsing::args_in))]
 pub fn args(alloc: Global, tokens: &[Token]) -> Result<(Items<Type>, &[Token]), TextError>
     ensures { Gives (λ x. (x.0, x.1.now)) result (args_in tokens.now) }
 {
-    if starts_mark(Mark::Less, tokens) {
+    if starts_punct(Punct::Less, tokens) {
         return some_args(alloc, tokens);
     }
     Ok((Items::new(alloc), tokens))
 }
 
-/// The next type of a signature, which has `place` types between the first and this one.
-#[tactic(auto, unfolding(crate::specs::Parsing::next_param_in))]
-fn next_param(alloc: Global, tokens: &[Token], place: usize) -> Result<(Type, &[Token]), TextError>
-    ensures { Gives (λ x. (x.0, x.1.now)) result (next_param_in place tokens.now) }
+/// The next type of a signature, which has `index` types between the first and this one.
+#[tactic(auto, unfolding(crate::specs::TypeParsing::next_param_in))]
+fn next_param(alloc: Global, tokens: &[Token], index: usize) -> Result<(Type, &[Token]), TextError>
+    ensures { Gives (λ x. (x.0, x.1.now)) result (next_param_in index tokens.now) }
 {
-    let rest = past_mark(Mark::Comma, tokens)?;
-    if place < PARAMS_MOST - 1 {
+    let rest = past_punct(Punct::Comma, tokens)?;
+    if index < PARAMS_MOST - 1 {
         return ty(alloc, rest);
     }
     Err(TextError::BadText)
 }
 
-#[tactic(auto, unfolding(crate::specs::Parsing::more_params_in))]
+#[tactic(auto, unfolding(crate::specs::TypeParsing::more_params_in))]
 fn more_params(
     alloc: Global,
     first: Type,
@@ -240,18 +240,18 @@ fn more_params(
 {
     let mut types = single(alloc, first)?;
     let mut rest = tokens;
-    'each: for place in 0..tokens.len() {
-        if !starts_mark(Mark::Comma, rest) {
+    'each: for index in 0..tokens.len() {
+        if !starts_punct(Punct::Comma, rest) {
             break;
         }
-        let (ty, after) = next_param(alloc, rest, place)?;
+        let (ty, after) = next_param(alloc, rest, index)?;
         types.push(ty)?;
         rest = after;
     }
     Ok((types, rest))
 }
 
-#[tactic(auto, unfolding(crate::specs::Parsing::some_params_in))]
+#[tactic(auto, unfolding(crate::specs::TypeParsing::some_params_in))]
 fn some_params(alloc: Global, tokens: &[Token]) -> Result<(Items<Type>, &[Token]), TextError>
     ensures { Gives (λ x. (x.0, x.1.now)) result (some_params_in tokens.now) }
 {
@@ -260,34 +260,34 @@ fn some_params(alloc: Global, tokens: &[Token]) -> Result<(Items<Type>, &[Token]
 }
 
 /// The types of a signature's parameters, in parentheses.
-#[tactic(auto, unfolding(crate::specs::Parsing::params_in))]
+#[tactic(auto, unfolding(crate::specs::TypeParsing::params_in))]
 pub fn params(alloc: Global, tokens: &[Token]) -> Result<(Items<Type>, &[Token]), TextError>
     ensures { Gives (λ x. (x.0, x.1.now)) result (params_in tokens.now) }
 {
-    let rest = past_mark(Mark::Open, tokens)?;
-    if starts_mark(Mark::Close, rest) {
-        let rest = past_mark(Mark::Close, rest)?;
+    let rest = past_punct(Punct::Open, tokens)?;
+    if starts_punct(Punct::Close, rest) {
+        let rest = past_punct(Punct::Close, rest)?;
         return Ok((Items::new(alloc), rest));
     }
     let (types, rest) = some_params(alloc, rest)?;
-    let rest = past_mark(Mark::Close, rest)?;
+    let rest = past_punct(Punct::Close, rest)?;
     Ok((types, rest))
 }
 
-#[tactic(auto, unfolding(crate::specs::Parsing::written_result_in))]
+#[tactic(auto, unfolding(crate::specs::TypeParsing::written_result_in))]
 fn written_result(alloc: Global, tokens: &[Token]) -> Result<(Type, &[Token]), TextError>
     ensures { Gives (λ x. (x.0, x.1.now)) result (written_result_in tokens.now) }
 {
-    let rest = past_mark(Mark::Arrow, tokens)?;
+    let rest = past_punct(Punct::Arrow, tokens)?;
     ty(alloc, rest)
 }
 
 /// The type of the result behind its arrow, where one is written.
-#[tactic(auto, unfolding(crate::specs::Parsing::result_in))]
+#[tactic(auto, unfolding(crate::specs::TypeParsing::result_in))]
 pub fn result_type(alloc: Global, tokens: &[Token]) -> Result<(Option<Type>, &[Token]), TextError>
     ensures { Gives (λ x. (x.0, x.1.now)) result (result_in tokens.now) }
 {
-    if starts_mark(Mark::Arrow, tokens) {
+    if starts_punct(Punct::Arrow, tokens) {
         let (ty, rest) = written_result(alloc, tokens)?;
         return Ok((Some(ty), rest));
     }

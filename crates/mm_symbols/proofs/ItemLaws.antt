@@ -15,15 +15,15 @@ use Rattle.mm_terms.specs.Formed.{FitsHead, IsFormed, IsFormed-head, IsFormed-ch
 use Rattle.mm_terms.specs.Order.{types_of}
 use Rattle.mm_terms.specs.Substitution.{ParamsBelow, ParamsBelow-none, ParamsBelow-param, ParamsBelow-children, HasNoParam-below}
 use Rattle.mm_terms.specs.Tree.{node, head_of, children_of, tree_fold-parts, tree_ind, node-parts, children_of-node}
-use Rattle.mm_collect.specs.declared.program.Program.{Program}
-use Rattle.mm_collect.specs.declared.program.Function.{Function}
-use Rattle.mm_collect.specs.Uses.{function_path}
+use Rattle.mm_program.specs.declared.program.Program.{Program}
+use Rattle.mm_program.specs.declared.program.Function.{Function}
+use Rattle.mm_program.specs.Uses.{function_path, path_of}
 use Rattle.mm_symbols.specs.declared.form.SymbolForm.{SymbolForm}
 use Rattle.mm_symbols.specs.SymTree.{sym_node, sym_head, sym_children, sym_head-node, sym_children-node}
 use Rattle.mm_symbols.specs.SymbolText.{symbol_text}
 use Rattle.mm_symbols.specs.SymbolForms.{IsPath, IsHead, IsWithin, IsFormWithin, IsSymbolOf}
 use Rattle.mm_symbols.specs.Reading.{symbol_in}
-use Rattle.mm_symbols.specs.ItemForms.{path_of, names_of, head_form, type_form, item_form, form_of, IsPathText, HasNames, def_of, defs_of, greatest, depth_of, IsTypeIn, IsItemIn}
+use Rattle.mm_symbols.specs.ItemForms.{names_of, head_form, type_form, item_form, form_of, IsPathText, HasNames, def_of, defs_of, greatest, depth_of, IsTypeIn, IsItemIn}
 use Rattle.mm_symbols.proofs.Readers.{some_same}
 use Rattle.mm_symbols.proofs.TypeReads.{within_node}
 use Rattle.mm_symbols.proofs.SymbolReads.{symbol_in-complete}
@@ -145,24 +145,24 @@ module _ (p : Program) (names : HasNames p) where
         children = join_types (children_of t) (IsFormed-children t is.formed) (ParamsBelow-children 0 t below) (each_apart (λ d. d < length p.functions) (children_of t) defs.1);
       }
 
-  -- ---- a type is told by its form
+  -- ---- a type is reported by its form
 
   Told : Tree → Type 0
   Told t = IsTypeIn p t → (s : Tree) → IsTypeIn p s → type_form p t ≡ type_form p s → t ≡ s
 
-  types_told : (ts ss : List Tree) → All Told ts → All (IsTypeIn p) ts → All (IsTypeIn p) ss → map (type_form p) ts ≡ map (type_form p) ss → ts ≡ ss
+  types_reported : (ts ss : List Tree) → All Told ts → All (IsTypeIn p) ts → All (IsTypeIn p) ss → map (type_form p) ts ≡ map (type_form p) ss → ts ≡ ss
   unfolding Told
-  types_told [] [] told are also same = refl
-  types_told [] (s ∷ ss) told are also same = cc
-  types_told (t ∷ ts) [] told are also same = cc
-  types_told (t ∷ ts) (s ∷ ss) told are also same =
-      let first : t ≡ s = All-head Told t ts told (All-head (IsTypeIn p) t ts are) s (All-head (IsTypeIn p) s ss also) (cc) in
-      let others : ts ≡ ss = types_told ts ss (All-tail Told t ts told) (All-tail (IsTypeIn p) t ts are) (All-tail (IsTypeIn p) s ss also) (cc) in
+  types_reported [] [] reported are also same = refl
+  types_reported [] (s ∷ ss) reported are also same = cc
+  types_reported (t ∷ ts) [] reported are also same = cc
+  types_reported (t ∷ ts) (s ∷ ss) reported are also same =
+      let first : t ≡ s = All-head Told t ts reported (All-head (IsTypeIn p) t ts are) s (All-head (IsTypeIn p) s ss also) (cc) in
+      let others : ts ≡ ss = types_reported ts ss (All-tail Told t ts reported) (All-tail (IsTypeIn p) t ts are) (All-tail (IsTypeIn p) s ss also) (cc) in
       λ i. first i ∷ others i
 
-  told_node : (head : TyHead) (children : List Tree) → All Told children → Told (node head children)
+  reported_node : (head : TyHead) (children : List Tree) → All Told children → Told (node head children)
   unfolding Told
-  told_node head children told is s also same =
+  reported_node head children reported is s also same =
       let t = node head children in
       let parts = type_parts t is in
       let others = type_parts s also in
@@ -170,15 +170,15 @@ module _ (p : Program) (names : HasNames p) where
       let heads : head_form p (head_of t) ≡ head_form p (head_of s) = sym (sym_head-node (head_form p (head_of t)) (map (type_form p) (children_of t))) ∙ ap sym_head forms ∙ sym_head-node (head_form p (head_of s)) (map (type_form p) (children_of s)) in
       let below : map (type_form p) (children_of t) ≡ map (type_form p) (children_of s) = sym (sym_children-node (head_form p (head_of t)) (map (type_form p) (children_of t))) ∙ ap sym_children forms ∙ sym_children-node (head_form p (head_of s)) (map (type_form p) (children_of s)) in
       let head_same : head_of t ≡ head_of s = head_one (head_of t) (head_of s) parts.head others.head heads in
-      let children_same : children_of t ≡ children_of s = types_told (children_of t) (children_of s) (All-same Told (children_of t) children (children_of-node head children) told) parts.children others.children below in
+      let children_same : children_of t ≡ children_of s = types_reported (children_of t) (children_of s) (All-same Told (children_of t) children (children_of-node head children) reported) parts.children others.children below in
       sym (node-parts t) ∙ (λ i. node (head_same i) (children_same i)) ∙ node-parts s
 
-  type_told : (t : Tree) → Told t
-  type_told = tree_ind Told told_node
+  type_reported : (t : Tree) → Told t
+  type_reported = tree_ind Told reported_node
 
-  all_told : (ts : List Tree) → All Told ts
-  all_told [] = All-nil Told
-  all_told (t ∷ ts) = All-cons Told t ts (type_told t) (all_told ts)
+  all_reported : (ts : List Tree) → All Told ts
+  all_reported [] = All-nil Told
+  all_reported (t ∷ ts) = All-cons Told t ts (type_reported t) (all_reported ts)
 
   -- ---- the form of a type is that of a symbol
 
@@ -219,10 +219,10 @@ module _ (p : Program) (names : HasNames p) where
   unfolding Told
   item_one (Fn c ts) (Fn d ss) is also same =
       let defs : c ≡ d = one_def c d (All-head (λ d. d < length p.functions) c.0 [] is.def) (All-head (λ d. d < length p.functions) d.0 [] also.def) (cc) in
-      let args : ts ≡ ss = types_told ts ss (all_told ts) is.types also.types (cc) in
+      let args : ts ≡ ss = types_reported ts ss (all_reported ts) is.types also.types (cc) in
       λ i. Fn (defs i) (args i)
-  item_one (Glue t) (Glue s) is also same = ap Glue (type_told t (All-head (IsTypeIn p) t [] is.types) s (All-head (IsTypeIn p) s [] also.types) (cc))
-  item_one (Shim t) (Shim s) is also same = ap Shim (type_told t (All-head (IsTypeIn p) t [] is.types) s (All-head (IsTypeIn p) s [] also.types) (cc))
+  item_one (Glue t) (Glue s) is also same = ap Glue (type_reported t (All-head (IsTypeIn p) t [] is.types) s (All-head (IsTypeIn p) s [] also.types) (cc))
+  item_one (Shim t) (Shim s) is also same = ap Shim (type_reported t (All-head (IsTypeIn p) t [] is.types) s (All-head (IsTypeIn p) s [] also.types) (cc))
   item_one (Static c) (Static d) is also same = ap Static (one_def c d (All-head (λ d. d < length p.functions) c.0 [] is.def) (All-head (λ d. d < length p.functions) d.0 [] also.def) (cc))
   item_one x y is also same = cc
 
@@ -230,8 +230,8 @@ module _ (p : Program) (names : HasNames p) where
   deepest x = greatest (map depth_of (types_of x))
 
   -- items with one symbol are one
-  pub item_told : (x y : Item) → IsItemIn p x → IsItemIn p y → symbol_text (form_of p x) ≡ symbol_text (form_of p y) → x ≡ y
-  item_told x y is also same =
+  pub item_reported : (x y : Item) → IsItemIn p x → IsItemIn p y → symbol_text (form_of p x) ≡ symbol_text (form_of p y) → x ≡ y
+  item_reported x y is also same =
       let n = deepest x + deepest y in
       let one = form_within n x is (none_deeper (types_of x) n (omega arith)) in
       let other = form_within n y also (none_deeper (types_of y) n (omega arith)) in

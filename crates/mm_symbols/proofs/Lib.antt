@@ -10,3 +10,5 @@ pub mod ItemLaws
 pub mod PathLemmas
 pub mod ItemLemmas
 pub mod InstanceItems
+mod TypeTextLemmas
+pub mod SortedLines

@@ -18,7 +18,7 @@ use Rattle.mm_lex.specs.LexReading.{number_in}
 use Rattle.mm_lex.specs.LexNames.{is_name}
 use Rattle.mm_lex.proofs.LexNumberLemmas.{number_in-writes, number_in-decimal, decimal-digits}
 use Rattle.mm_lex.proofs.LexNameLemmas.{starts_name-ascii}
-use Rattle.mm_lex.proofs.LexRunLemmas.{both, prefix_len-append, take-front, drop-front}
+use Rattle.mm_lex.proofs.LexRunLemmas.{both, prefix_len-append, take-prefix, drop-prefix}
 use Rattle.mm_lex.proofs.LexNameTests.{is_name-sound, is_name-complete}
 use Rattle.mm_symbols.specs.SymbolText.{seg_text, path_text}
 use Rattle.mm_symbols.specs.SymbolForms.{IsPath}
@@ -30,7 +30,7 @@ abbrev pub BeginsOther : List ℕ → Type 0
 BeginsOther [] = ⊥
 BeginsOther (c ∷ cs) = is_ascii_digit c ≡ false
 
--- what can be told from the length before it
+-- what can be reported from the length before it
 pub record IsSegment (bytes : List ℕ) : Type 0 where
   pub short : length bytes ≤ 255
   pub other : BeginsOther bytes
@@ -67,12 +67,12 @@ segment_complete name rest is =
     let split : bytes ≡ digits ++ (name ++ rest) = append_assoc digits name rest in
     let n = prefix_len is_ascii_digit bytes in
     let all_digits = AllPass-from_list_all is_ascii_digit digits (decimal-digits len small) in
-    let front : n ≡ length digits = ap (prefix_len is_ascii_digit) split ∙ prefix_len-append is_ascii_digit digits (name ++ rest) all_digits (other_stops name rest is.other) in
-    let taken : take n bytes ≡ digits = ap (take n) split ∙ take-front digits (name ++ rest) n front in
-    let left : drop n bytes ≡ name ++ rest = ap (drop n) split ∙ drop-front digits (name ++ rest) n front in
+    let prefix : n ≡ length digits = ap (prefix_len is_ascii_digit) split ∙ prefix_len-append is_ascii_digit digits (name ++ rest) all_digits (other_stops name rest is.other) in
+    let taken : take n bytes ≡ digits = ap (take n) split ∙ take-prefix digits (name ++ rest) n prefix in
+    let left : drop n bytes ≡ name ++ rest = ap (drop n) split ∙ drop-prefix digits (name ++ rest) n prefix in
     let read : number_in 255 (take n bytes) ≡ Some len = ap (number_in 255) taken ∙ number_in-decimal 255 len (omega arith) is.short in
     let enough : leb len (length (name ++ rest)) ≡ true = le-leb len (length (name ++ rest)) (omega (arith, length-append name rest)) in
-    let got : bytes_in len (name ++ rest) ≡ Some (name, rest) = cond-true (leb len (length (name ++ rest))) (Some (take len (name ++ rest), drop len (name ++ rest))) None enough ∙ (λ i. Some (take-front name rest len refl i, drop-front name rest len refl i)) in
+    let got : bytes_in len (name ++ rest) ≡ Some (name, rest) = cond-true (leb len (length (name ++ rest))) (Some (take len (name ++ rest), drop len (name ++ rest))) None enough ∙ (λ i. Some (take-prefix name rest len refl i, drop-prefix name rest len refl i)) in
     bind_at (number_in 255 (take n bytes)) (λ l. bytes_in l (drop n bytes)) len (Some (name, rest)) read (ap (bytes_in len) left ∙ got)
 
 pub reads_segment : Reads (λ s. Unit {0}) IsSegment seg_text segment_in

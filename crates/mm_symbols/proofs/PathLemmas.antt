@@ -27,26 +27,26 @@ name_some (c ∷ cs) is = refl
 
 -- ---- the names of a chain
 
-parted : List (List ℕ) → List ℕ
-parted names = flat_map (λ name. codes "::" ++ name) names
+separated : List (List ℕ) → List ℕ
+separated names = flat_map (λ name. codes "::" ++ name) names
 
 kept : (name : List ℕ) (parts : List (List ℕ)) → IsName name → filter has_some (name ∷ parts) ≡ name ∷ filter has_some parts
 kept name parts is = cond-true (has_some name) (name ∷ filter has_some parts) (filter has_some parts) (name_some name is)
 
-chain : (name : List ℕ) (names : List (List ℕ)) → IsName name → All IsName names → filter has_some (slice_split (λ c. eqb c 58) (name ++ parted names)) ≡ name ∷ names
-unfolding parted
+chain : (name : List ℕ) (names : List (List ℕ)) → IsName name → All IsName names → filter has_some (slice_split (λ c. eqb c 58) (name ++ separated names)) ≡ name ∷ names
+unfolding separated
 chain name [] is are =
     ap (λ bytes. filter has_some (slice_split (λ c. eqb c 58) bytes)) (append-nil name)
     ∙ ap (filter has_some) (slice_split_none (λ c. eqb c 58) name (name_no_colon name is))
     ∙ kept name [] is
 chain name (next ∷ names) is are =
-    let back = next ++ parted names in
+    let back = next ++ separated names in
     ap (filter has_some) (slice_split_at (λ c. eqb c 58) name 58 (58 ∷ back) (name_no_colon name is) refl)
     ∙ kept name (slice_split (λ c. eqb c 58) (58 ∷ back)) is
     ∙ ap (λ ns. name ∷ ns) (chain next names (All-head IsName next names are) (All-tail IsName next names are))
 
 names_in-joined : (names : List (List ℕ)) → IsPath names → names_in (join_by (λ name. name) (codes "::") names) ≡ names
-unfolding names_in parted
+unfolding names_in separated
 names_in-joined [] path = absurd (path.some refl)
 names_in-joined (name ∷ names) path = chain name names (All-head IsName name names path.each) (All-tail IsName name names path.each)
 

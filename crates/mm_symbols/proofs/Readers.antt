@@ -36,7 +36,7 @@ pub record Reads {A : Type 0} (Out In : A → Type 0) (text : A → List ℕ) (r
   pub sound : (bytes : List ℕ) (a : A) (rest : List ℕ) → read bytes ≡ Some (a, rest) → Out a × (bytes ≡ text a ++ rest)
   pub complete : (a : A) (rest : List ℕ) → In a → read (text a ++ rest) ≡ Some (a, rest)
 
--- the same texts, otherwise told
+-- the same texts, otherwise reported
 pub reads_same : {A : Type 0} {Out In : A → Type 0} {text : A → List ℕ} {read : List ℕ → Read A} (other : A → List ℕ) → ((a : A) → other a ≡ text a) → Reads Out In text read → Reads Out In other read
 reads_same {read = read} other are one = record {
   sound = λ bytes a rest h. let s = one.sound bytes a rest h in (s.0, s.1 ∙ ap (λ l. l ++ rest) (sym (are a)));

@@ -33,11 +33,11 @@ signature_text-split (param ∷ next ∷ others) =
 
 -- the same of the types
 pub signature_is : (types params result : List SymType) (n : ℕ) → n ≡ length types - 1 → params ≡ take n types → result ≡ drop n types → (concat (map type_text params) ++ codes "E") ++ concat (map type_text result) ≡ signature_text (map type_text types)
-signature_is types params result n is front back =
+signature_is types params result n is prefix back =
     let texts : List (List ℕ) = map type_text types in
     let m : n ≡ length texts - 1 = is ∙ ap (λ k. k - 1) (sym (length-map types type_text)) in
     let firsts : map type_text params ≡ take (length texts - 1) texts =
-    ap (map type_text) front ∙ sym (take-map type_text n types) ∙ ap (λ k. take k texts) m in
+    ap (map type_text) prefix ∙ sym (take-map type_text n types) ∙ ap (λ k. take k texts) m in
     let last : map type_text result ≡ drop (length texts - 1) texts =
     ap (map type_text) back ∙ sym (drop-map type_text n types) ∙ ap (λ k. drop k texts) m in
     (λ i. concat (firsts i) ++ codes "E" ++ concat (last i))

@@ -65,10 +65,10 @@ signature_text-last (text ∷ next ∷ texts) result = ap (λ l. text ++ l) (sig
 signature_types : (params : List SymType) (result : SymType) → signature_text (map type_text (params ++ result ∷ [])) ≡ (concat (map type_text params) ++ codes "E") ++ type_text result
 signature_types params result = ap signature_text (map-append type_text params (result ∷ [])) ∙ signature_text-last (map type_text params) (type_text result)
 
-all_front : {A : Type 0} (P : A → Type 0) (xs : List A) (x : A) → All P (xs ++ x ∷ []) → All P xs × P x
-all_front P [] x is = (All-nil P, All-head P x [] is)
-all_front P (y ∷ ys) x is =
-    let below = all_front P ys x (All-tail P y (ys ++ x ∷ []) is) in
+all_prefix : {A : Type 0} (P : A → Type 0) (xs : List A) (x : A) → All P (xs ++ x ∷ []) → All P xs × P x
+all_prefix P [] x is = (All-nil P, All-head P x [] is)
+all_prefix P (y ∷ ys) x is =
+    let below = all_prefix P ys x (All-tail P y (ys ++ x ∷ []) is) in
     (All-cons P y ys (All-head P y (ys ++ x ∷ []) is) below.0, below.1)
 
 some_last : {A : Type 0} (xs : List A) (x : A) → length (xs ++ x ∷ []) ≢ 0
@@ -157,7 +157,7 @@ module _ (P : SymType → Type 0) (inner : List ℕ → Read SymType) (one : Rea
   shape_complete Boxed ts rest is = single_complete Boxed ts rest is.0 is.1
   shape_complete FnPtr ts rest is =
       let l = last_below ts is.0 in
-      let are = all_front P l.0.0 l.0.1 (subst (All P) (sym l.1) is.1) in
+      let are = all_prefix P l.0.0 l.0.1 (subst (All P) (sym l.1) is.1) in
       let make : List SymType × SymType → Shape = λ x. (FnPtr, x.0 ++ x.1 ∷ []) in
       subst (λ ys. made_in make (pair_in (until_end inner) inner) (signature_text (map type_text ys) ++ rest) ≡ Some ((FnPtr, ys), rest)) l.1
       (ap (λ t. made_in make (pair_in (until_end inner) inner) (t ++ rest)) (signature_types l.0.0 l.0.1) ∙ behind_complete make reads_signature l.0 rest are)

@@ -11,8 +11,8 @@ use Rattle.mm_terms.specs.Formed.{IsFormed}
 use Rattle.mm_terms.specs.Order.{types_of}
 use Rattle.mm_terms.specs.Substitution.{HasNoParam}
 use Rattle.mm_terms.specs.Tree.{tree_fold}
-use Rattle.mm_collect.specs.declared.program.Program.{Program}
-use Rattle.mm_collect.specs.Uses.{function_path}
+use Rattle.mm_program.specs.declared.program.Program.{Program}
+use Rattle.mm_program.specs.Uses.{path_of}
 use Rattle.mm_symbols.specs.declared.form.SymHead.{SymHead}
 use Rattle.mm_symbols.specs.declared.form.SymHead.TheVariants as sym
 use Rattle.mm_symbols.specs.declared.form.SymType.{SymType}
@@ -21,10 +21,6 @@ use Rattle.mm_symbols.specs.declared.form.SymItem.TheVariants as items
 use Rattle.mm_symbols.specs.declared.form.SymbolForm.{SymbolForm}
 use Rattle.mm_symbols.specs.SymTree.{sym_node}
 use Rattle.mm_symbols.specs.SymbolForms.{IsPath}
-
--- the path of a definition; empty where there is none
-abbrev pub path_of : Program → DefId → List ℕ
-path_of p d = function_path (slice_get p.functions d.0)
 
 abbrev pub has_some : List ℕ → Bool
 has_some [] = false

@@ -3,3 +3,5 @@ pub mod SymbolText
 pub mod SymbolForms
 pub mod ItemForms
 pub mod Reading
+pub mod TypeText
+pub mod Listing

@@ -16,7 +16,7 @@ use Rattle.mm_symbols.specs.declared.form.SymItem.TheVariants as items
 use Rattle.mm_symbols.specs.declared.form.SymbolForm.{SymbolForm}
 use Rattle.mm_symbols.specs.SymTree.{sym_node}
 
--- what a function of the reader returned, seen by the view, is what is read; want of memory is free
+-- what a function of the reader returned, seen by the view, is what is read; out of memory is free
 abbrev pub Gives : {X Y : Type 0} → (X → Y) → Result X TextError → Option Y → Type 0
 Gives view (Ok x) read = read ≡ Some (view x)
 Gives view (Err BadText) read = read ≡ None
@@ -119,7 +119,7 @@ defined_behind inner c bytes =
     (cond (eqb c 68) (defined_in Dyn inner bytes)
     (cond (eqb c 65) (defined_in Adt inner bytes) None)))
 
--- the head of a type and the types below it, behind the letter with which they are told
+-- the head of a type and the types below it, behind the letter with which they are reported
 abbrev pub behind_letter : (List ℕ → Read SymType) → ℕ → List ℕ → Read (SymHead × List SymType)
 behind_letter inner c bytes =
     cond (eqb c 121) (Some ((U64, []), bytes))

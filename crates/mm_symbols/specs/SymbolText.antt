@@ -68,7 +68,7 @@ item_text (items.Glue type') = codes "L" ++ type_text type'
 item_text (items.Shim type') = codes "H" ++ type_text type'
 item_text (items.Static names) = codes "S" ++ path_text names
 
--- the crate for which it is compiled, where that is told
+-- the crate for which it is compiled, where that is reported
 abbrev pub krate_text : Option (List ℕ) → List ℕ
 krate_text None = []
 krate_text (Some name) = codes "X" ++ seg_text name

@@ -7,15 +7,15 @@ pub type Segs = Items<Text>;
 /// The types of a list, in order.
 pub type SymTypes = Items<SymType>;
 
-/// What a symbol says: the item that it names, and the crate for which the item is compiled, where that is told.
-#[derive(Debug, Drop)]
+/// What a symbol says: the item that it names, and the crate for which the item is compiled, where that is reported.
+#[derive(Drop)]
 pub struct SymbolForm {
     pub item: SymItem,
     pub krate: Option<Text>,
 }
 
 /// An item as a symbol names it.
-#[derive(Debug, Drop)]
+#[derive(Drop)]
 pub enum SymItem {
     /// An instance of a function: its path, and its type arguments.
     Fn(Segs, SymTypes),
@@ -32,7 +32,7 @@ pub enum SymItem {
 }
 
 /// An instance of a method of an impl, as a symbol names it.
-#[derive(Debug, Drop)]
+#[derive(Drop)]
 pub struct SymMethod {
     /// The self type of the impl.
     pub target: SymType,
@@ -47,14 +47,14 @@ pub struct SymMethod {
 }
 
 /// A type as a symbol names it: a head, and the types below it.
-#[derive(Debug, Drop)]
+#[derive(Drop)]
 pub struct SymType {
     pub head: SymHead,
     pub children: Items<SymType>,
 }
 
 /// What stands at the head of a type. A definition is named by its path.
-#[derive(Debug, Drop)]
+#[derive(Drop)]
 pub enum SymHead {
     U64,
     Bool,

@@ -1,24 +1,14 @@
 ghost use Rattle.std.specs.Prelude.{◌≡◌, eqb, map, filter, IfOk};
 ghost use Rattle.std.specs.List.{slice_split};
 ghost use Rattle.mm_symbols.specs.SymbolText.{symbol_text};
-ghost use Rattle.mm_symbols.specs.ItemForms.{path_of, has_some, names_in, names_of, head_form, type_form, item_form, form_of};
+ghost use Rattle.mm_symbols.specs.ItemForms.{has_some, names_in, names_of, head_form, type_form, item_form, form_of};
 
 use crate::form::{Segs, SymHead, SymItem, SymType, SymTypes, SymbolForm};
 use crate::writing::write_symbol;
-use mm_collect::Program;
+use mm_program::Program;
 use mm_terms::{DefId, Item, NoMemory, Text, Tree, Ty, TyHead};
 use sqlite_items::Items;
 use std::alloc::Global;
-
-/// The path of a definition; empty where there is none.
-fn path(p: &Program, d: DefId) -> &[u8]
-    ensures { result.now ≡ path_of p.now d }
-{
-    match p.functions.get(d.0 as usize) {
-        Some(function) => function.path.as_slice(),
-        None => &[],
-    }
-}
 
 /// What stands between the colons.
 fn parts(alloc: Global, path: &[u8]) -> Result<Vec<&[u8]>, NoMemory>
@@ -52,7 +42,7 @@ fn names_in(alloc: Global, path: &[u8]) -> Result<Segs, NoMemory>
 fn names(alloc: Global, p: &Program, d: DefId) -> Result<Segs, NoMemory>
     ensures { IfOk result (λ names. names ≡ names_of p.now d) }
 {
-    names_in(alloc, path(p, d))
+    names_in(alloc, p.path(d))
 }
 
 fn head_form(alloc: Global, p: &Program, head: TyHead) -> Result<SymHead, NoMemory>

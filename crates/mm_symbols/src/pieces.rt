@@ -1,12 +1,11 @@
 ghost use Rattle.std.specs.Prelude.{◌≡◌, ◌≤◌, IfOk, IfSome, not, eqb, length};
 ghost use Rattle.std.specs.Char.{is_ascii_digit};
 ghost use Rattle.std.specs.List.{list_all, prefix_len};
-ghost use Rattle.mm_lex.specs.LexReading.{is_numeral, number_in};
 ghost use Rattle.mm_lex.specs.LexNames.{is_name};
 ghost use Rattle.mm_symbols.specs.Reading.{Gives, starts, past, bytes_in, segment_in, name_in, segments_in, is_path, path_in, each_in, until_end};
 
 use crate::form::Segs;
-use mm_lex::TextError;
+use mm_lex::{TextError, decimal};
 use mm_terms::{NoMemory, Text};
 use sqlite_items::Items;
 use std::alloc::Global;
@@ -38,39 +37,6 @@ fn digits_length(bytes: &[u8]) -> usize
     bytes.iter().take_while(|c| c.is_ascii_digit()).count()
 }
 
-fn all_digits(bytes: &[u8]) -> bool
-    ensures { result ≡ list_all is_ascii_digit bytes.now }
-{
-    bytes.iter().all(|c| c.is_ascii_digit())
-}
-
-/// Whether the bytes are digits, and no zero leads another digit.
-fn is_numeral(bytes: &[u8]) -> bool
-    ensures { result ≡ is_numeral bytes.now }
-{
-    match bytes {
-        [] | [b'0', _, ..] => false,
-        _ => all_digits(bytes),
-    }
-}
-
-/// The number that the bytes write, where it is at most 255 and no zero leads it.
-#[tactic(auto, unfolding(mm_lex::specs::LexReading::number_in))]
-fn number(bytes: &[u8]) -> Option<u64>
-    ensures value { result ≡ number_in 255 bytes.now }
-    ensures small { IfSome result (λ n. n ≤ 255) }
-{
-    if !is_numeral(bytes) {
-        return None;
-    }
-    let mut n: u64 = 0;
-    for c in bytes {
-        let digit = char::from(*c).to_digit(10)?;
-        n = n.checked_mul(10)?.checked_add(u64::from(digit))?;
-    }
-    (n <= 255).then_some(n)
-}
-
 /// So many bytes, and those behind them.
 fn split(len: usize, bytes: &[u8]) -> Result<(&[u8], &[u8]), TextError>
     ensures { Gives (λ x. (x.0.now, x.1.now)) result (bytes_in len bytes.now) }
@@ -87,7 +53,7 @@ pub fn segment(bytes: &[u8]) -> Result<(&[u8], &[u8]), TextError>
     ensures { Gives (λ x. (x.0.now, x.1.now)) result (segment_in bytes.now) }
 {
     let (digits, rest) = bytes.split_at(digits_length(bytes));
-    let len = number(digits).ok_or(TextError::BadText)?;
+    let len = decimal(digits, 255).ok_or(TextError::BadText)?;
     split(len as usize, rest)
 }
 

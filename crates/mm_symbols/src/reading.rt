@@ -12,7 +12,7 @@ use std::alloc::Global;
 /// How deep types nest at most.
 const NESTED_MOST: u32 = 4_096;
 
-/// The compiling crate, where one is told, from all of the bytes behind the item.
+/// The compiling crate, where one is reported, from all of the bytes behind the item.
 #[tactic(auto, unfolding(crate::specs::Reading::krate_in))]
 fn krate(alloc: Global, bytes: &[u8]) -> Result<Option<Text>, TextError>
     ensures { Gives (λ x. x) result (krate_in bytes.now) }

@@ -165,7 +165,7 @@ fn write_item(item: &SymItem, out: &mut Vec<u8>) -> Result<(), NoMemory>
     }
 }
 
-/// Writes the compiling crate, where one is told.
+/// Writes the compiling crate, where one is reported.
 fn write_krate(krate: &Option<Text>, out: &mut Vec<u8>) -> Result<(), NoMemory>
     ensures { OnOk result (out.new.items ≡ out.old.items ++ krate_text krate.now) }
 {

@@ -63,17 +63,17 @@ permuted [] (y ∷ ys) once_xs once_ys there back = absurd (let none = back y (f
 permuted (x ∷ xs) ys once_xs once_ys there back =
     let at : Contains ys x = there x (first_in x xs) in
     let rest : List Item = remove ys at.0 in
-    let front : IsPermutation ys (x ∷ rest) = IsPermutation-remove ys at.0 x at.1 (sym at.2) in
-    let once : IsDistinct same_item (x ∷ rest) = IsDistinct-IsPermutation same_item same_item_equiv.symm ys (x ∷ rest) front once_ys in
+    let prefix : IsPermutation ys (x ∷ rest) = IsPermutation-remove ys at.0 x at.1 (sym at.2) in
+    let once : IsDistinct same_item (x ∷ rest) = IsDistinct-IsPermutation same_item same_item_equiv.symm ys (x ∷ rest) prefix once_ys in
     let below : IsPermutation xs rest = permuted xs rest (others_once x xs once_xs) (others_once x rest once)
-    (λ q has. Contains-tail x rest q (not_first x xs once_xs q has) (Contains-permutation ys (x ∷ rest) q front (there q (later_in x xs q has))))
-    (λ q has. Contains-tail x xs q (not_first x rest once q has) (back q (Contains-permutation (x ∷ rest) ys q (IsPermutation-sym ys (x ∷ rest) front) (later_in x rest q has)))) in
-    IsPermutation-trans (x ∷ xs) (x ∷ rest) ys (IsPermutation-cons x xs rest below) (IsPermutation-sym ys (x ∷ rest) front)
+    (λ q has. Contains-tail x rest q (not_first x xs once_xs q has) (Contains-permutation ys (x ∷ rest) q prefix (there q (later_in x xs q has))))
+    (λ q has. Contains-tail x xs q (not_first x rest once q has) (back q (Contains-permutation (x ∷ rest) ys q (IsPermutation-sym ys (x ∷ rest) prefix) (later_in x rest q has)))) in
+    IsPermutation-trans (x ∷ xs) (x ∷ rest) ys (IsPermutation-cons x xs rest below) (IsPermutation-sym ys (x ∷ rest) prefix)
 
 -- ---- the laws
 
-pub one_verdict : (roots : List Item) (uses : Item → List Item) (n : ℕ) (items : List Item) → HasMoreThan roots uses n → AreMembers roots uses items → n < length items
-one_verdict roots uses n items more members =
+pub more_is_longer : (roots : List Item) (uses : Item → List Item) (n : ℕ) (items : List Item) → HasMoreThan roots uses n → AreMembers roots uses items → n < length items
+more_is_longer roots uses n items more members =
     let within = no_longer more.items items more.once (λ q has. members.all q (All-contains (IsMember roots uses) more.items q more.each has)) in
     omega (arith, more.many)
 

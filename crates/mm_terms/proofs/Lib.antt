@@ -1,3 +1,4 @@
+pub mod ListLemmas
 pub mod ClosureLemmas
 mod HashedLemmas
 mod HeadLemmas

@@ -16,7 +16,7 @@ module _ (roots : List Item) (uses : Item → List Item) where
   abbrev pub IsMember : Item → Type 0
   IsMember x = (before : List Item) × EndsChain x before
 
-  -- a set, told by what holds of the items in it, holds the roots and is closed under use
+  -- a set, reported by what holds of the items in it, holds the roots and is closed under use
   pub record IsClosed (P : Item → Type 0) : Type 0 where
     pub root : (x : Item) → Contains roots x → P x
     pub used : (x y : Item) → P x → Contains (uses x) y → P y

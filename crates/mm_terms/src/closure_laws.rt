@@ -15,7 +15,7 @@ pub fn least_closure()
 
 /// The verdict on a limit is one: where the closure has more than `n` members, each list of all the members is
 /// longer than `n`.
-pub fn one_verdict()
+pub fn more_is_longer()
     ensures { (roots : List Item) (uses : Item → List Item) (n : ℕ) (items : List Item) →
         HasMoreThan roots uses n → AreMembers roots uses items → n < length items }
 {}

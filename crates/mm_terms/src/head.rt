@@ -15,7 +15,7 @@ use std::cmp::Ordering;
 use std::hash::{Hash, Hasher};
 
 /// The head of an impl: a trait at types, the self type first and then the trait's own arguments.
-#[derive(Debug, Drop)]
+#[derive(Drop)]
 pub struct Head {
     pub tr: DefId,
     pub args: Tys,

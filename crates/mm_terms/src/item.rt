@@ -18,7 +18,7 @@ use std::hash::{Hash, Hasher};
 use std::slice;
 
 /// A mono item: what is compiled once, and has no type parameter left.
-#[derive(Debug, Drop)]
+#[derive(Drop)]
 pub enum Item {
     /// An instance of a function, a method or a closure's body.
     Fn(DefId, Tys),

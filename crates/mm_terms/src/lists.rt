@@ -2,7 +2,7 @@ use crate::item::Item;
 use crate::ty::Ty;
 use sqlite_items::Items;
 
-/// Want of memory.
+/// Out of memory.
 pub use std::alloc::AllocError as NoMemory;
 
 /// A list of bytes.

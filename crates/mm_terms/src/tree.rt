@@ -16,7 +16,7 @@ use std::cmp::Ordering;
 use std::hash::{Hash, Hasher};
 
 /// A type as a finite tree: a head, and the types below it. Contracts see each `Ty` as its tree.
-#[derive(Debug, Drop)]
+#[derive(Drop)]
 pub struct Tree {
     pub head: TyHead,
     pub children: Items<Tree>,

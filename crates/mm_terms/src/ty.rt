@@ -24,7 +24,7 @@ use std::marker::Model;
 
 /// A type, which contracts see as its tree. Each head in it has as many children as it takes, and its length is below
 /// 2^32. The length is kept beside the tree.
-#[derive(Debug, Drop)]
+#[derive(Drop)]
 pub struct Ty {
     tree: Tree,
     length: u32,

@@ -8,7 +8,7 @@ use Rattle.std.proofs.lemmas.List.{append-nil, append_cancel_left, map-append, t
 use Rattle.std.proofs.lemmas.List.Elements.{Contains-append_left, Contains-append_right, Contains-append_cases}
 use Rattle.std.proofs.lemmas.List.Sums.{sum_by-append, sum_by-cons}
 use Rattle.std.proofs.lemmas.List.Sorted.{IsPermutation-sym, IsPermutation-trans, IsPermutation-cons, IsPermutation-to_front, IsPermutation-append_left, Contains-permutation, sum_by-IsPermutation}
-use Rattle.mm_collect.specs.declared.program.Opts.{Opts}
+use Rattle.mm_program.specs.declared.program.Opts.{Opts}
 use Rattle.mm_tool.specs.declared.words.Command.{Command}
 use Rattle.mm_tool.specs.declared.words.Command.TheVariants as command
 use Rattle.mm_tool.specs.declared.limits.Given.{Given}
@@ -114,7 +114,7 @@ refused given done rest word gives none opts a =
     let here = Contains-permutation (done ++ word ∷ rest) (option_words a.length a.items) word (IsPermutation-sym (option_words a.length a.items) (done ++ word ∷ rest) a.any_order) among in
     refused_by given a.length a.items done rest word gives none a.any_order a.length_is a.items_is (Contains-append_cases (option_word (codes "--length=") a.length) (option_word (codes "--items=") a.items) word here)
 
--- a number is told from its option's word
+-- a number is reported from its option's word
 same_number : (name : List ℕ) (most m n : ℕ) (given : Option ℕ) → most < 2 ^ 64 → m ≤ most → IsUpTo most given → given ≡ Some n → name ++ decimal m ≡ name ++ decimal n → given ≡ Some m
 same_number name most m n given small within up is same =
     let bounds : IsUpTo most (Some n) = subst (IsUpTo most) is up in

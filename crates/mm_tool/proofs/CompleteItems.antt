@@ -14,32 +14,19 @@ use Rattle.mm_terms.specs.Length.{length_of, lengths_of, item_length, length_of-
 use Rattle.mm_terms.specs.Order.{types_of}
 use Rattle.mm_terms.specs.Tree.{node, tree_ind, tree_fold-node}
 use Rattle.mm_terms.proofs.ClosureLemmas.{member_root, member_used, least}
-use Rattle.mm_collect.specs.declared.program.Program.{Program}
-use Rattle.mm_collect.specs.declared.program.Opts.{Opts}
-use Rattle.mm_collect.specs.Roots.{is_exported, is_root, item_of, roots_of}
-use Rattle.mm_collect.specs.Uses.{candidates_of, is_within, note_of, uses_of}
-use Rattle.mm_collect.specs.Verdict.{IsAccepted}
-use Rattle.mm_collect.specs.WellFormed.{IsWellFormed, IsInstanceIn}
+use Rattle.mm_program.specs.declared.program.Program.{Program}
+use Rattle.mm_program.specs.declared.program.Opts.{Opts}
+use Rattle.mm_program.specs.Roots.{is_exported, is_root, item_of, roots_of, main_item}
+use Rattle.mm_program.specs.Uses.{candidates_of, is_within, note_of, uses_of}
+use Rattle.mm_program.specs.Verdict.{IsAccepted}
+use Rattle.mm_program.specs.WellFormed.{IsWellFormed, IsInstanceIn}
 use Rattle.mm_collect.proofs.InstanceLemmas.{members_are}
 use Rattle.mm_symbols.specs.ItemForms.{depth_of, greatest}
 use Rattle.mm_objects.specs.Emitted.{UseThemselves}
 use Rattle.mm_emit.specs.Complete.{IsComplete}
-use Rattle.mm_emit.proofs.References.{first_or_other, later, mapped}
 use Rattle.mm_tool.specs.Report.{IsMeant, Means}
 use Rattle.mm_tool.proofs.NamedPrograms.{means_krate, means_names, means_well_formed}
-
--- ---- lists
-
--- an element that passes is kept
-kept_here : {X : Type 0} (test : X → Bool) (x : X) (xs : List X) (y : X) (b : Bool) → test x ≡ b → test y ≡ true → (Contains xs y → Contains (filter test xs) y) → (y ≡ x) ⊎ Contains xs y → Contains (cond b (x ∷ filter test xs) (filter test xs)) y
-kept_here test x xs y true is passes others (inl same) = (0, omega arith, sym same)
-kept_here test x xs y true is passes others (inr there) = later x (filter test xs) y (others there)
-kept_here test x xs y false is passes others (inl same) = absurd (cc (sym is, ap test (sym same), passes))
-kept_here test x xs y false is passes others (inr there) = others there
-
-kept : {X : Type 0} (test : X → Bool) (xs : List X) (y : X) → Contains xs y → test y ≡ true → Contains (filter test xs) y
-kept test [] y here passes = absurd (omega (arith, here.1))
-kept test (x ∷ xs) y here passes = kept_here test x xs y (test x) refl passes (λ there. kept test xs y there passes) (first_or_other x xs y here)
+use Rattle.mm_terms.proofs.ListLemmas.{Contains-map, Contains-filter}
 
 -- ---- depths
 
@@ -103,11 +90,11 @@ module _ (p : Program) (well : IsWellFormed p) where
         get_or-enumerate_from 0 p.functions k (k, f) within ∙ (λ i. (zero-add k i, get_or_from_slice_get p.functions k f f well.main.named i)),
       )
 
-  main_root : Contains (roots_of p) (item_of p.main.0)
+  main_root : Contains (roots_of p) (main_item p)
   main_root =
       let is : is_root p (p.main.0, well.main.main) ≡ true = ap (λ b. is_exported p (p.main.0, well.main.main) || b) (eq-eqb p.main.0 p.main.0 refl) ∙ or_right (is_exported p (p.main.0, well.main.main)) in
-      mapped (λ one. item_of one.0) (filter (is_root p) (enumerate_from 0 p.functions)) (p.main.0, well.main.main)
-      (kept (is_root p) (enumerate_from 0 p.functions) (p.main.0, well.main.main) main_numbered is)
+      Contains-map (λ one. item_of one.0) (filter (is_root p) (enumerate_from 0 p.functions)) (p.main.0, well.main.main)
+      (Contains-filter (is_root p) (enumerate_from 0 p.functions) (p.main.0, well.main.main) main_numbered is)
 
 -- ---- items of an accepted program
 
@@ -118,10 +105,10 @@ module _ (p : Program) (opts : Opts) (items : List Item) (accepted : IsAccepted 
   -- what an item uses is within the limit, since nothing is noted
   use_themselves : UseThemselves p items
   use_themselves x y here used = elim (cases_Bool (is_within opts.length y)) [
-    | inl within ↦ accepted.members.all y (member_used (roots_of p) (uses_of p opts.length) x y (member x here) (kept (is_within opts.length) (candidates_of p x) y used within))
+    | inl within ↦ accepted.members.all y (member_used (roots_of p) (uses_of p opts.length) x y (member x here) (Contains-filter (is_within opts.length) (candidates_of p x) y used within))
     | inr beyond ↦
-        let noted = kept (λ z. not (is_within opts.length z)) (candidates_of p x) y used (ap not beyond) in
-        absurd (accepted.none (note_of p y) (x, member x here, mapped (note_of p) (filter (λ z. not (is_within opts.length z)) (candidates_of p x)) y noted))
+        let noted = Contains-filter (λ z. not (is_within opts.length z)) (candidates_of p x) y used (ap not beyond) in
+        absurd (accepted.none (note_of p y) (x, member x here, Contains-map (note_of p) (filter (λ z. not (is_within opts.length z)) (candidates_of p x)) y noted))
   ]
 
 pub complete : (text : List ℕ) (p : Program) (opts : Opts) (items : List Item) → Means text p → opts.length ≤ 2048 → IsAccepted p opts items → IsComplete p items
@@ -135,7 +122,7 @@ complete text p opts items means small accepted =
       names = means_names text p means;
       instances = from (IsInstanceIn p) (λ x is. members_are p opts.length x well is);
       once = accepted.members.once;
-      main = accepted.members.all (item_of p.main.0) (member_root (roots_of p) (uses_of p opts.length) (item_of p.main.0) (main_root p well));
+      main = accepted.members.all (main_item p) (member_root (roots_of p) (uses_of p opts.length) (main_item p) (main_root p well));
       uses = use_themselves p opts items accepted;
       shallow = from IsShallow (member_shallow p opts.length small);
     }

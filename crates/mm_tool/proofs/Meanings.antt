@@ -2,9 +2,9 @@
 use Rattle.std.proofs.Common.{◌≡◌, ℕ, List, [], ◌∷◌, Some, Result, Err, refl, sym, ◌∙◌, subst}
 use Rattle.std.specs.List.{slice_get}
 use Rattle.std.specs.Str.{chars}
-use Rattle.mm_collect.specs.declared.program.Program.{Program}
+use Rattle.mm_program.specs.declared.program.Program.{Program}
 use Rattle.mm_parse.specs.declared.ast.Crate.{Crate}
-use Rattle.mm_lex.specs.declared.token.Place.{Place}
+use Rattle.mm_lex.specs.declared.token.Position.{Position}
 use Rattle.mm_lex.specs.declared.token.Token.{Token}
 use Rattle.mm_load.specs.declared.load_error.LoadError as errors
 use Rattle.mm_load.specs.declared.load_error.LoadError.TheVariants.{Rule as Broken, NoMemory}
@@ -35,16 +35,16 @@ meaning_one text p q m n =
     let is = program_of text n.tokens n.tree p n.lexed n.spelled m in
     is.means ∙ sym n.loaded.means
 
-none_first : (places : List Place) (at : Place) → places ≡ [] → slice_get places 0 ≡ Some at → ⊥
+none_first : (places : List Position) (at : Position) → places ≡ [] → slice_get places 0 ≡ Some at → ⊥
 none_first [] at none first = cc
 none_first (p ∷ ps) at none first = cc
 
 -- a tree with a fault means no program
-fault_or_program : (tree : Crate) (rule : Rule) (at : Place) (p : Program) → IsFirstFault tree rule at → IsProgram tree p → ⊥
+fault_or_program : (tree : Crate) (rule : Rule) (at : Position) (p : Program) → IsFirstFault tree rule at → IsProgram tree p → ⊥
 fault_or_program tree rule at p fault is = none_first (fails rule tree) at (is.kept rule) fault.first
 
 -- nor does one that was refused
-pub refused : (tree : Crate) (e : errors.LoadError) (p : Program) → ((rule : Rule) (at : Place) → e ≡ Broken rule at → IsFirstFault tree rule at) → refusal_of e ≡ refusals.BadText → IsProgram tree p → ⊥
+pub refused : (tree : Crate) (e : errors.LoadError) (p : Program) → ((rule : Rule) (at : Position) → e ≡ Broken rule at → IsFirstFault tree rule at) → refusal_of e ≡ refusals.BadText → IsProgram tree p → ⊥
 refused tree (Broken rule at) p fault bad is = fault_or_program tree rule at p (fault rule at refl) is
 refused tree NoMemory p fault bad is = cc
 

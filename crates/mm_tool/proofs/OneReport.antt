@@ -2,21 +2,21 @@
 use Rattle.std.proofs.Common.{◌≡◌, ℕ, List, ◌++◌, map, sym, ◌∙◌, ap, subst, inl, inr, codes}
 use Rattle.std.specs.Prelude.{Contains, decimal}
 use Rattle.std.proofs.lemmas.List.Sorted.{IsPermutation-map, IsPermutation-trans, IsPermutation-sym}
-use Rattle.mm_collect.specs.declared.program.Program.{Program}
-use Rattle.mm_collect.specs.declared.program.Opts.{Opts}
+use Rattle.mm_program.specs.declared.program.Program.{Program}
+use Rattle.mm_program.specs.declared.program.Opts.{Opts}
 use Rattle.mm_terms.specs.declared.item.Item.{Item}
 use Rattle.mm_terms.specs.Closure.{IsMember}
-use Rattle.mm_collect.specs.Roots.{roots_of}
-use Rattle.mm_collect.specs.Uses.{uses_of}
-use Rattle.mm_collect.specs.Verdict.{IsAccepted}
+use Rattle.mm_program.specs.Roots.{roots_of}
+use Rattle.mm_program.specs.Uses.{uses_of}
+use Rattle.mm_program.specs.Verdict.{IsAccepted}
 use Rattle.mm_objects.specs.Emitted.{HaveOwnSymbols}
 use Rattle.mm_objects.specs.ObjectText.{objects_text}
 use Rattle.mm_symbols.specs.ItemForms.{IsItemIn}
-use Rattle.mm_symbols.proofs.ItemLaws.{item_told}
+use Rattle.mm_symbols.proofs.ItemLaws.{item_reported}
 use Rattle.mm_emit.proofs.OneEmission.{emission_one}
 use Rattle.std.proofs.lemmas.List.Elements.{All-contains}
-use Rattle.mm_collect.proofs.VerdictLemmas.{many_or_long, many_or_accepted, long_or_accepted, one_note_told, one_listing}
-use Rattle.mm_tool.specs.Listing.{line_of, ended}
+use Rattle.mm_collect.proofs.VerdictLemmas.{many_or_long, many_or_accepted, long_or_accepted, one_note_reported, one_listing}
+use Rattle.mm_symbols.specs.Listing.{line_of, ended}
 use Rattle.mm_tool.specs.declared.answer.Product.{Product}
 use Rattle.mm_tool.specs.declared.answer.Product.TheVariants as product
 use Rattle.mm_tool.specs.declared.words.Command.{Command}
@@ -33,7 +33,7 @@ use Rattle.mm_emit.proofs.OneOrder.{sorted_one}
 own_symbols : (text : List ℕ) (p : Program) (opts : Opts) (items : List Item) → Means text p → IsAccepted p opts items → HaveOwnSymbols p items
 own_symbols text p opts items m accepted x y inside there same =
     let member : (z : Item) → Contains items z → IsItemIn p z = λ z here. members_in text p opts.length z m (All-contains (IsMember (roots_of p) (uses_of p opts.length)) items z accepted.members.each here) in
-    item_told p (means_names text p m) x y (member x inside) (member y there) same
+    item_reported p (means_names text p m) x y (member x inside) (member y there) same
 
 shown_one : (product : Product) (text : List ℕ) (p : Program) (opts : Opts) (s t : ℕ) (a b : List ℕ) → Means text p → IsShown product p opts s a → IsShown product p opts t b → Same s t a b
 shown_one product.Listing text p opts s t a b m one other =
@@ -54,7 +54,7 @@ shown_one product.Objects text p opts s t a b m one other =
 
 long_one : (p : Program) (opts : Opts) (s t : ℕ) (a b : List ℕ) → SaysTooLong p opts s a → SaysTooLong p opts t b → Same s t a b
 long_one p opts s t a b one other =
-    let note = one_note_told p opts one.path other.path one.n other.n one.long other.long in
+    let note = one_note_reported p opts one.path other.path one.n other.n one.long other.long in
     let text : line (codes "error: type length " ++ decimal one.n ++ codes " in " ++ one.path) ≡ line (codes "error: type length " ++ decimal other.n ++ codes " in " ++ other.path) =
     λ i. line (codes "error: type length " ++ decimal (note.1 i) ++ codes " in " ++ note.0 i) in
     (one.status_is ∙ sym other.status_is, one.output_is ∙ text ∙ sym other.output_is)

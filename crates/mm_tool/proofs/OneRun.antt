@@ -7,29 +7,29 @@ use Rattle.mm_machines.specs.declared.trap.Obs.{Obs}
 use Rattle.mm_machines.specs.Image.{observed_image}
 use Rattle.mm_link.specs.declared.fault.LinkFault.{LinkFault}
 use Rattle.mm_link.specs.declared.fault.LinkFault.TheVariants as unlinked
-use Rattle.mm_link.specs.declared.linked.Linked.{Linked}
+use Rattle.mm_objects.specs.declared.target.Linked.{Linked}
 use Rattle.mm_link.proofs.OneVerdict.{linked_one, verdict_one, linked_or_fault}
 use Rattle.mm_tool.specs.Observed.{obs_text, obs_status}
 use Rattle.mm_tool.specs.Report.{TellsUnlinked, IsUnlinked, IsObserved, IsRun, IsLinkAnswer}
 use Rattle.mm_tool.proofs.Reports.{Same}
 
--- want of memory is not told
-pub told_fault : (f : LinkFault) (output : List ℕ) → TellsUnlinked f output → f ≢ unlinked.NoMemory
-told_fault (unlinked.Double symbol first second) output tells is = cc
-told_fault (unlinked.Undefined unit symbol) output tells is = cc
-told_fault unlinked.NoMain output tells is = cc
-told_fault unlinked.NoMemory output tells is = absurd tells
+-- out of memory is not reported
+pub reported_fault : (f : LinkFault) (output : List ℕ) → TellsUnlinked f output → f ≢ unlinked.NoMemory
+reported_fault (unlinked.Double symbol first second) output tells is = cc
+reported_fault (unlinked.Undefined unit symbol) output tells is = cc
+reported_fault unlinked.NoMain output tells is = cc
+reported_fault unlinked.NoMemory output tells is = absurd tells
 
-told_one : (f : LinkFault) (a b : List ℕ) → TellsUnlinked f a → TellsUnlinked f b → a ≡ b
-told_one (unlinked.Double symbol first second) a b one other = one ∙ sym other
-told_one (unlinked.Undefined unit symbol) a b one other = one ∙ sym other
-told_one unlinked.NoMain a b one other = one ∙ sym other
-told_one unlinked.NoMemory a b one other = absurd one
+reported_one : (f : LinkFault) (a b : List ℕ) → TellsUnlinked f a → TellsUnlinked f b → a ≡ b
+reported_one (unlinked.Double symbol first second) a b one other = one ∙ sym other
+reported_one (unlinked.Undefined unit symbol) a b one other = one ∙ sym other
+reported_one unlinked.NoMain a b one other = one ∙ sym other
+reported_one unlinked.NoMemory a b one other = absurd one
 
 unlinked_one : (objects : Objects) (s t : ℕ) (a b : List ℕ) → IsUnlinked objects s a → IsUnlinked objects t b → Same s t a b
 unlinked_one objects s t a b one other =
-    let same : one.fault ≡ other.fault = verdict_one objects one.fault other.fault one.verdict other.verdict (told_fault one.fault a one.told) (told_fault other.fault b other.told) in
-    (one.status_is ∙ sym other.status_is, told_one other.fault a b (subst (λ f. TellsUnlinked f a) same one.told) other.told)
+    let same : one.fault ≡ other.fault = verdict_one objects one.fault other.fault one.verdict other.verdict (reported_fault one.fault a one.reported) (reported_fault other.fault b other.reported) in
+    (one.status_is ∙ sym other.status_is, reported_one other.fault a b (subst (λ f. TellsUnlinked f a) same one.reported) other.reported)
 
 -- what is seen of a run
 abbrev pub seen : Linked → ℕ → Obs
@@ -44,8 +44,8 @@ observed_one objects steps s t a b one other =
 
 run_one : (objects : Objects) (steps s t : ℕ) (a b : List ℕ) → IsRun objects steps s a → IsRun objects steps t b → Same s t a b
 run_one objects steps s t a b (inl one) (inl other) = observed_one objects steps s t a b one other
-run_one objects steps s t a b (inl one) (inr other) = absurd (linked_or_fault objects one.image other.fault one.linked other.verdict (told_fault other.fault b other.told))
-run_one objects steps s t a b (inr one) (inl other) = absurd (linked_or_fault objects other.image one.fault other.linked one.verdict (told_fault one.fault a one.told))
+run_one objects steps s t a b (inl one) (inr other) = absurd (linked_or_fault objects one.image other.fault one.linked other.verdict (reported_fault other.fault b other.reported))
+run_one objects steps s t a b (inr one) (inl other) = absurd (linked_or_fault objects other.image one.fault other.linked one.verdict (reported_fault one.fault a one.reported))
 run_one objects steps s t a b (inr one) (inr other) = unlinked_one objects s t a b one other
 
 pub objects_one : (bytes : List ℕ) (one other : Objects) → IsUnitText bytes one → IsUnitText bytes other → one ≡ other

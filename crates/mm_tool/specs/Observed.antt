@@ -1,4 +1,4 @@
--- How what is seen of a run is told: a line for each printed number, and one for how the run stands.
+-- How what is seen of a run is reported: a line for each printed number, and one for how the run stands.
 use Rattle.std.specs.Prelude.{ℕ, List, [], ◌∷◌, ◌++◌, flat_map, codes, decimal}
 use Rattle.mm_machines.specs.declared.trap.Ended.{Ended}
 use Rattle.mm_machines.specs.declared.trap.Ended.TheVariants.{Returned, Trap as Trapped, Running}

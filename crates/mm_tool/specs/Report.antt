@@ -2,13 +2,13 @@
 use Rattle.std.specs.Prelude.{◌≡◌, ◌≢◌, ℕ, ◌⊎◌, List, [], ◌∷◌, ◌++◌, Err, codes, decimal}
 use Rattle.std.specs.declared.option.Option.{Option}
 use Rattle.std.specs.Io.KnownBytes.{Appends}
-use Rattle.mm_outside.specs.Whole.{WritesFront}
+use Rattle.mm_outside.specs.Whole.{WritesPrefix}
 use Rattle.mm_terms.specs.declared.item.Item.{Item}
-use Rattle.mm_collect.specs.declared.program.Program.{Program}
-use Rattle.mm_collect.specs.declared.program.Opts.{Opts}
+use Rattle.mm_program.specs.declared.program.Program.{Program}
+use Rattle.mm_program.specs.declared.program.Opts.{Opts}
 use Rattle.mm_collect.specs.declared.fault.CollectFault.{CollectFault}
 use Rattle.mm_collect.specs.declared.fault.CollectFault.TheVariants as fault
-use Rattle.mm_collect.specs.Verdict.{IsAccepted, IsTooMany, IsTooLong}
+use Rattle.mm_program.specs.Verdict.{IsAccepted, IsTooMany, IsTooLong}
 use Rattle.mm_parse.specs.declared.ast.Crate.{Crate}
 use Rattle.mm_lex.specs.declared.token.Token.{Token}
 use Rattle.mm_objects.specs.declared.objects.Objects.{Objects}
@@ -18,8 +18,9 @@ use Rattle.mm_emit.specs.Faithful.{RunAs}
 use Rattle.mm_machines.specs.Image.{observed_image}
 use Rattle.mm_link.specs.declared.fault.LinkFault.{LinkFault}
 use Rattle.mm_link.specs.declared.fault.LinkFault.TheVariants as unlinked
-use Rattle.mm_link.specs.declared.linked.Linked.{Linked}
+use Rattle.mm_objects.specs.declared.target.Linked.{Linked}
 use Rattle.mm_link.specs.Linking as linking
+use Rattle.mm_objects.specs.Linking.{IsLinked}
 use Rattle.mm_tool.specs.declared.answer.Product.{Product}
 use Rattle.mm_tool.specs.declared.answer.Product.TheVariants as product
 use Rattle.mm_tool.specs.declared.words.Command.{Command}
@@ -27,7 +28,7 @@ use Rattle.mm_tool.specs.declared.words.Command.TheVariants as command
 use Rattle.mm_lex.specs.LexText.{AreTokensOf}
 use Rattle.mm_parse.specs.Grammar as grammar
 use Rattle.mm_load.specs.Meaning.{IsProgram}
-use Rattle.mm_tool.specs.Listing.{IsListing}
+use Rattle.mm_symbols.specs.Listing.{IsListing}
 use Rattle.mm_tool.specs.Observed.{obs_text, obs_status}
 use Rattle.mm_tool.specs.Words.{AreWords, IsNoCommand}
 
@@ -83,7 +84,7 @@ pub record SaysTooLong (p : Program) (opts : Opts) (status : ℕ) (output : List
   pub long : IsTooLong p opts path n
   pub output_is : output ≡ line (codes "error: type length " ++ decimal n ++ codes " in " ++ path)
 
--- what is told of a fault of collection
+-- what is reported of a fault of collection
 abbrev pub Tells : Program → CollectFault → ℕ → List ℕ → Type 0
 Tells p (fault.TooMany n) status output = (status ≡ 5) × (output ≡ line (codes "error: more than " ++ decimal n ++ codes " items in crate " ++ p.krate))
 Tells p (fault.TypeLength path n) status output = (status ≡ 6) × (output ≡ line (codes "error: type length " ++ decimal n ++ codes " in " ++ path))
@@ -112,7 +113,7 @@ IsAnswer product text opts status output = IsJudged product text opts status out
 
 -- ---- objects that are linked and run
 
--- what is told of a fault of linking
+-- what is reported of a fault of linking
 abbrev pub TellsUnlinked : LinkFault → List ℕ → Type 0
 TellsUnlinked (unlinked.Double symbol first second) output = output ≡ line (codes "error: symbol " ++ symbol ++ codes " defined twice, in " ++ first ++ codes " and " ++ second)
 TellsUnlinked (unlinked.Undefined unit symbol) output = output ≡ line (codes "error: undefined symbol " ++ symbol ++ codes " in unit " ++ unit)
@@ -124,12 +125,12 @@ pub record IsUnlinked (objects : Objects) (status : ℕ) (output : List ℕ) : T
   pub status_is : status ≡ 9
   pub fault : LinkFault
   pub verdict : linking.IsVerdict objects (Err fault)
-  pub told : TellsUnlinked fault output
+  pub reported : TellsUnlinked fault output
 
--- the objects are linked, and what is seen of their run for so many steps is told
+-- the objects are linked, and what is seen of their run for so many steps is reported
 pub record IsObserved (objects : Objects) (steps status : ℕ) (output : List ℕ) : Type 0 where
   pub image : Linked
-  pub linked : linking.IsLinked objects image
+  pub linked : IsLinked objects image
   pub status_is : status ≡ obs_status (observed_image image.objects.units image.main steps).ended
   pub output_is : output ≡ obs_text (observed_image image.objects.units image.main steps)
 
@@ -191,9 +192,9 @@ pub record Reports (words : List (List ℕ)) (text : List ℕ) (status : ℕ) (o
   pub report : IsReport words text status output
   pub written : Appends old new output
 
--- a front of the output of a report was written
-pub record ReportsFront (words : List (List ℕ)) (text : List ℕ) (old new : Option (List ℕ)) : Type 0 where
+-- a prefix of the output of a report was written
+pub record ReportsPrefix (words : List (List ℕ)) (text : List ℕ) (old new : Option (List ℕ)) : Type 0 where
   pub status : ℕ
   pub output : List ℕ
   pub report : IsReport words text status output
-  pub written : WritesFront old new output
+  pub written : WritesPrefix old new output

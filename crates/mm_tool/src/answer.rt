@@ -1,21 +1,22 @@
 ghost use Rattle.std.specs.Prelude.{◌≡◌, ℕ, List, ◌≤◌, length, IfOk};
-ghost use Rattle.mm_collect.specs.declared.program.Program.{Program};
+ghost use Rattle.mm_program.specs.declared.program.Program.{Program};
 ghost use Rattle.mm_emit.specs.Complete.{IsComplete};
 ghost use Rattle.mm_tool.specs.Report.{Means, IsMeant, IsObjectsOf, Shows, IsVerdict, IsAnswer};
 
-use crate::listing::list_items;
 use crate::refusal::refuse;
-use mm_collect::{Opts, Program, collect};
+use mm_collect::collect;
 use mm_emit::emit_one;
 use mm_lex::{TextError, lex};
 use mm_load::load;
 use mm_objects::write_objects;
 use mm_parse::parse;
+use mm_program::{Opts, Program};
+use mm_symbols::list_items;
 use mm_terms::{Item, NoMemory};
 use std::alloc::Global;
 
 /// What is written of the items of an accepted program.
-#[derive(Clone, Copy, Debug, PartialEq, Eq)]
+#[derive(Clone, Copy)]
 pub enum Product {
     /// A line for each item.
     Listing,
@@ -24,7 +25,7 @@ pub enum Product {
 }
 
 /// A status, and the bytes that are to be written.
-#[derive(Debug, Drop)]
+#[derive(Drop)]
 pub struct Answer {
     pub status: u8,
     pub output: Vec<u8>,

@@ -3,10 +3,10 @@
 ghost use Rattle.std.specs.Prelude.{◌≡◌, ℕ, List};
 ghost use Rattle.mm_terms.specs.Closure.{IsMember};
 ghost use Rattle.mm_terms.specs.declared.item.Item.{Item};
-ghost use Rattle.mm_collect.specs.Roots.{roots_of};
-ghost use Rattle.mm_collect.specs.Uses.{uses_of};
-ghost use Rattle.mm_collect.specs.WellFormed.{IsWellFormed};
-ghost use Rattle.mm_collect.specs.declared.program.Program.{Program};
+ghost use Rattle.mm_program.specs.Roots.{roots_of};
+ghost use Rattle.mm_program.specs.Uses.{uses_of};
+ghost use Rattle.mm_program.specs.WellFormed.{IsWellFormed};
+ghost use Rattle.mm_program.specs.declared.program.Program.{Program};
 ghost use Rattle.mm_lex.specs.LexTokens.{IsName};
 ghost use Rattle.mm_machines.specs.Demand.{observed_demand};
 ghost use Rattle.mm_symbols.specs.ItemForms.{HasNames, IsItemIn};
@@ -23,7 +23,7 @@ pub fn means_names()
         IsMember (roots_of p) (uses_of p limit) x → IsItemIn p x }
 {}
 
-/// What is told of the bytes that `build` writes is what is seen of the program, for every number of steps. So their run
+/// What is reported of the bytes that `build` writes is what is seen of the program, for every number of steps. So their run
 /// is never refused.
 pub fn built_runs()
     ensures { (p : Program) (items : List Item) (bytes : List ℕ) (steps status : ℕ) (output : List ℕ) →

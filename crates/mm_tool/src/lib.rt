@@ -8,22 +8,13 @@ mod answer;
 pub mod laws;
 mod limits;
 mod linking;
-mod listing;
 mod numbers;
 mod observation;
 mod refusal;
 mod tool;
-mod type_texts;
 mod words;
 
 pub use answer::{Answer, Product, answer_to, one_meaning, read_program};
 pub use linking::answer_link;
-pub use listing::{item_text, list_items};
 pub use tool::{OBJECTS_LIMIT, TEXT_LIMIT, one_report, tool_one};
-pub use type_texts::type_text;
 pub use words::{Command, one_command, read_words};
-
-#[cfg(test)]
-mod tests;
-#[cfg(test)]
-mod text_tests;

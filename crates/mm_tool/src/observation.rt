@@ -1,4 +1,4 @@
-//! What is seen of a run, as it is told.
+//! What is seen of a run, as it is reported.
 
 ghost use Rattle.std.specs.Prelude.{◌≡◌, [], ◌∷◌, ◌++◌, flat_map, decimal, IfOk, OnOk};
 ghost use Rattle.mm_tool.specs.Observed.{trap_text, ended_text, obs_text, obs_status};

@@ -1,8 +1,8 @@
 ghost use Rattle.std.specs.Prelude.{◌≡◌, ◌≢◌, ◌⊎◌, ℕ, ◌≤◌, List, length, map, IfSome, IfOk, IfErr, OnOk};
 ghost use Rattle.std.specs.Io.KnownBytes.{Appends, IsAtEnd, Keeps};
 ghost use Rattle.mm_outside.specs.Causes.{Rose};
-ghost use Rattle.mm_outside.specs.Whole.{GaveMore, GaveWithin, WritesFront};
-ghost use Rattle.mm_tool.specs.Report.{IsAnswerStatus, IsSettled, IsStatus, Answers, IsReport, Reports, ReportsFront};
+ghost use Rattle.mm_outside.specs.Whole.{GaveMore, GaveWithin, WritesPrefix};
+ghost use Rattle.mm_tool.specs.Report.{IsAnswerStatus, IsSettled, IsStatus, Answers, IsReport, Reports, ReportsPrefix};
 ghost use Rattle.mm_tool.specs.Words.{AreWords, IsCommand, IsNoCommand, IsWorded, text_limit};
 ghost use Rattle.mm_tool.specs.declared.words.Command.{Command};
 
@@ -33,8 +33,9 @@ fn limit_of(command: Command) -> usize
 fn put<K: Sink>(sink: &mut K, status: u8, output: &[u8]) -> u8
     requires { status ≢ 21 }
     ensures whole { result ≢ 21 → (result ≡ status) × Appends (K.written sink.old) (K.written sink.new) output.now }
-    ensures cut { result ≡ 21 → WritesFront (K.written sink.old) (K.written sink.new) output.now }
+    ensures cut { result ≡ 21 → WritesPrefix (K.written sink.old) (K.written sink.new) output.now }
     ensures cause { result ≡ 21 → Rose (K.faults sink.old) (K.faults sink.new) }
+    ensures kept { result ≢ 21 → K.faults sink.new ≡ K.faults sink.old }
 {
     match put_all(sink, output) {
         Ok(()) => status,
@@ -65,6 +66,7 @@ fn answer_of<S: Source>(alloc: Global, source: &mut S, command: Command) -> Resu
     ensures end { OnOk result (IsAtEnd (S.left source.new)) }
     ensures failures { IfErr result (λ status. (status ≡ 20) ⊎ (status ≡ 22) ⊎ (status ≡ 23)) }
     ensures fault { result ≡ Err 20 → Rose (S.faults source.old) (S.faults source.new) }
+    ensures kept { result ≢ Err 20 → S.faults source.new ≡ S.faults source.old }
     ensures long { result ≡ Err 23 → GaveMore (text_limit command) (S.left source.old) (S.left source.new) }
     ensures short { result ≢ Err 23 → GaveWithin (text_limit command) (S.left source.old) (S.left source.new) }
 {
@@ -97,8 +99,8 @@ fn answer_of<S: Source>(alloc: Global, source: &mut S, command: Command) -> Resu
 /// | 10 | the numbers that are printed, and `trap <kind>` | the objects are linked, and their run traps |
 /// | 11 | the numbers that are printed, and `still running` | the objects are linked, and their run has not ended after so many steps |
 /// | 20 | nothing | the source failed |
-/// | 21 | a front of the output | the sink failed |
-/// | 22 | nothing | memory was wanting |
+/// | 21 | a prefix of the output | the sink failed |
+/// | 22 | nothing | out of memory |
 /// | 23 | nothing | the text has more than [`TEXT_LIMIT`] bytes, or where it is linked, more than [`OBJECTS_LIMIT`] |
 #[tactic(auto, using(crate::proofs::CommandLimits::worded))]
 pub fn tool_one<S: Source, K: Sink>(
@@ -107,9 +109,9 @@ pub fn tool_one<S: Source, K: Sink>(
     source: &mut S,
     sink: &mut K,
 ) -> u8
-    // Where the source tells its bytes, status and output are those of the report, or a front of the output where the sink fails.
+    // Where the source tells its bytes, status and output are those of the report, or a prefix of the output where the sink fails.
     ensures report { IfSome (S.left source.old) (λ text. IsSettled result → Reports (map (λ w. w.now) words.now) text result (K.written sink.old) (K.written sink.new)) }
-    ensures cut { IfSome (S.left source.old) (λ text. result ≡ 21 → ReportsFront (map (λ w. w.now) words.now) text (K.written sink.old) (K.written sink.new)) }
+    ensures cut { IfSome (S.left source.old) (λ text. result ≡ 21 → ReportsPrefix (map (λ w. w.now) words.now) text (K.written sink.old) (K.written sink.new)) }
     ensures silent { (result ≡ 20) ⊎ (result ≡ 22) ⊎ (result ≡ 23) → Keeps (K.written sink.old) (K.written sink.new) }
 
     // When each other answer comes.
@@ -118,6 +120,8 @@ pub fn tool_one<S: Source, K: Sink>(
     ensures refused { IsNoCommand (map (λ w. w.now) words.now) → (result ≡ 2) ⊎ (result ≡ 21) }
     ensures read { result ≡ 20 → Rose (S.faults source.old) (S.faults source.new) }
     ensures write { result ≡ 21 → Rose (K.faults sink.old) (K.faults sink.new) }
+    ensures read_kept { result ≢ 20 → S.faults source.new ≡ S.faults source.old }
+    ensures write_kept { result ≢ 21 → K.faults sink.new ≡ K.faults sink.old }
     ensures long { (command : Command) → AreWords (map (λ w. w.now) words.now) command → result ≡ 23 → GaveMore (text_limit command) (S.left source.old) (S.left source.new) }
     ensures short { (command : Command) → AreWords (map (λ w. w.now) words.now) command → result ≢ 23 → GaveWithin (text_limit command) (S.left source.old) (S.left source.new) }
 

@@ -3,7 +3,7 @@ use Rattle.std.specs.Vec.Iter.{into_iter_items}
 use Rattle.std.proofs.lemmas.List.Elements.{All-same, All-cons, All-head, All-tail}
 use Rattle.indexmap.specs.IndexSet.{insert_all}
 use Rattle.mm_terms.specs.Same.{same_item}
-use Rattle.mm_collect.proofs.GrowthLemmas.{carried, in_front, behind}
+use Rattle.mm_collect.proofs.GrowthLemmas.{carried, in_prefix, behind}
 use Rattle.mm_collect.proofs.closure.claim_all.Goals as goal
 
 pub loop-item-init : goal.loop-item-init
@@ -11,7 +11,7 @@ loop-item-init c =
     let old = c.args.found.now.keys in
     let items = c.args.items.items in
     let left : into_iter_items c.into_iter-item-iterator.result ≡ items = search rules in
-    (tt, tt, c.requires, ap (insert_all same_item old) left, in_front old items, All-same (Contains (old ++ items)) _ _ left (behind old items))
+    (tt, tt, c.requires, ap (insert_all same_item old) left, in_prefix old items, All-same (Contains (old ++ items)) _ _ left (behind old items))
 
 pub loop-item-preserved : goal.loop-item-preserved
 loop-item-preserved c =

@@ -1,7 +1,7 @@
-use Rattle.mm_collect.specs.Roots.{roots_of}
-use Rattle.mm_collect.specs.Uses.{uses_of}
+use Rattle.mm_program.specs.Roots.{roots_of}
+use Rattle.mm_program.specs.Uses.{uses_of}
 use Rattle.mm_collect.proofs.FindingLemmas.{one_list}
-use Rattle.mm_collect.proofs.VerdictLemmas.{many_or_long, many_or_accepted, long_or_accepted, one_note_told, one_listing}
+use Rattle.mm_collect.proofs.VerdictLemmas.{many_or_long, many_or_accepted, long_or_accepted, one_note_reported, one_listing}
 use Rattle.mm_collect.proofs.laws.one_verdict.Goals as goal
 
 pub returns-clause-many_or_long : goal.returns-clause-many_or_long
@@ -14,7 +14,7 @@ pub returns-clause-long_or_accepted : goal.returns-clause-long_or_accepted
 returns-clause-long_or_accepted c = long_or_accepted
 
 pub returns-clause-one_note : goal.returns-clause-one_note
-returns-clause-one_note c = one_note_told
+returns-clause-one_note c = one_note_reported
 
 pub returns-clause-one_listing : goal.returns-clause-one_listing
 returns-clause-one_listing c = one_listing

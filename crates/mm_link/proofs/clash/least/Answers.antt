@@ -2,7 +2,7 @@ use Rattle.std.proofs.Common.{arith, get_or, take}
 use Rattle.std.specs.Prelude.{◌≢◌}
 use Rattle.std.specs.declared.cmp.Ordering.TheVariants.{Less}
 use Rattle.std.proofs.lemmas.List.Elements.{All-weaker}
-use Rattle.mm_link.specs.Linking.{clash_cmp}
+use Rattle.mm_objects.specs.Linking.{clash_cmp}
 use Rattle.mm_link.proofs.Least.{all_more, all_taken}
 use Rattle.mm_link.proofs.clash.least.Goals as goal
 

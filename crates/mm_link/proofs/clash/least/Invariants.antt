@@ -1,8 +1,8 @@
 use Rattle.std.proofs.Common.{◌<◌, length, take, get_or}
 use Rattle.std.specs.Prelude.{◌≢◌, All}
 use Rattle.std.specs.declared.cmp.Ordering.TheVariants.{Less}
-use Rattle.mm_link.specs.Linking.{clash_cmp}
-use Rattle.mm_link.specs.declared.clash.Clash.{Clash}
+use Rattle.mm_objects.specs.Linking.{clash_cmp}
+use Rattle.mm_objects.specs.declared.target.Clash.{Clash}
 use Rattle.mm_link.proofs.clash.least.Given as goal
 
 -- none of those before is less than the best of them

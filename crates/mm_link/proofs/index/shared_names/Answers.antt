@@ -1,6 +1,7 @@
 use Rattle.std.proofs.Common.{◌≡◌, arith, subst, ℕ, List, true}
 use Rattle.std.specs.Option.{option_or}
-use Rattle.mm_link.specs.Index.{found_from, leads, shared_in}
+use Rattle.mm_link.specs.Index.{found_from, look_up}
+use Rattle.mm_objects.specs.Resolution.{shared_in}
 use Rattle.mm_link.proofs.Names.{share_more}
 use Rattle.mm_link.proofs.index.shared_names.Goals as goal
 
@@ -10,6 +11,6 @@ loop-place-preserved c =
     let unit = c.index-units-place.result in
     let n = c.loop-place.place in
     let same : c.in-Ok.number ≡ n = omega arith in
-    share_more units n unit (leads c.loop-place.names) (leads c.note_unit.new.names) (shared_in units) c.loop-place-test.true c.index-units-place.is
-    (subst (λ k. (s : List ℕ) → leads c.note_unit.new.names s ≡ option_or (leads c.loop-place.names s) (found_from true k 0 unit.defs s)) same c.in_ok-note_unit.ensures)
+    share_more units n unit (look_up c.loop-place.names) (look_up c.note_unit.new.names) (shared_in units) c.loop-place-test.true c.index-units-place.is
+    (subst (λ k. (s : List ℕ) → look_up c.note_unit.new.names s ≡ option_or (look_up c.loop-place.names s) (found_from true k 0 unit.defs s)) same c.in_ok-note_unit.ensures)
     c.loop-place.invariant

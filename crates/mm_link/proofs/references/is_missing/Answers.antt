@@ -1,7 +1,6 @@
 use Rattle.std.proofs.Common.{◌∙◌, ap}
 use Rattle.std.specs.Prelude.{is_none}
-use Rattle.mm_objects.specs.Resolution.{resolve}
-use Rattle.mm_machines.specs.Image.{target_of}
+use Rattle.mm_objects.specs.Resolution.{resolve, target_of}
 use Rattle.mm_link.proofs.Finding.{index_finds}
 use Rattle.mm_link.proofs.Firsts.{none_is, none_map}
 use Rattle.mm_link.proofs.references.is_missing.Goals as goal

@@ -1,7 +1,7 @@
 use Rattle.std.proofs.Common.{◌≡◌, ◌∙◌, ap, arith, sym}
 use Rattle.std.specs.Option.{option_map}
 use Rattle.std.specs.List.{find}
-use Rattle.mm_link.specs.Linking.{first_undefined, is_undefined, unit_references}
+use Rattle.mm_objects.specs.Linking.{first_undefined, is_undefined, unit_references}
 use Rattle.mm_link.proofs.Firsts.{found_there, missed_there}
 use Rattle.mm_link.proofs.references.missing.Goals as goal
 

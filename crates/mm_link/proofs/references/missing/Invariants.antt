@@ -1,7 +1,7 @@
 use Rattle.std.proofs.Common.{◌≡◌, drop}
 use Rattle.std.specs.Prelude.{flat_map}
 use Rattle.std.specs.List.{enumerate_from, find}
-use Rattle.mm_link.specs.Linking.{first_undefined, is_undefined, unit_references}
+use Rattle.mm_objects.specs.Linking.{first_undefined, is_undefined, unit_references}
 use Rattle.mm_link.proofs.references.missing.Given as goal
 
 -- nothing is missing before

@@ -1,7 +1,7 @@
 use Rattle.std.proofs.Common.{◌≡◌, drop}
 use Rattle.std.specs.Prelude.{flat_map}
 use Rattle.std.specs.List.{find}
-use Rattle.mm_link.specs.Linking.{def_symbols, end_symbols, is_undefined}
+use Rattle.mm_objects.specs.Linking.{def_symbols, end_symbols, is_undefined}
 use Rattle.mm_link.proofs.references.missing_in.Given as goal
 
 -- nothing is missing before

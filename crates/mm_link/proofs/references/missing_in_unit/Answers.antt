@@ -2,7 +2,7 @@ use Rattle.std.proofs.Common.{◌∙◌, ap, sym}
 use Rattle.std.specs.Option.{option_map}
 use Rattle.std.specs.List.{find}
 use Rattle.std.specs.Prelude.{flat_map}
-use Rattle.mm_link.specs.Linking.{def_symbols, is_undefined}
+use Rattle.mm_objects.specs.Linking.{def_symbols, is_undefined}
 use Rattle.mm_link.proofs.Firsts.{found_here}
 use Rattle.mm_link.proofs.references.missing_in_unit.Goals as goal
 

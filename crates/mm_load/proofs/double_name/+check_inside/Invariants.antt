@@ -1,6 +1,6 @@
 use Rattle.std.proofs.Common.{◌≡◌, [], map, take, drop}
 use Rattle.mm_load.specs.Rules.{along, member_of}
-use Rattle.mm_load.specs.WrittenItem.{items_in}
+use Rattle.mm_load.proofs.ItemViews.{items_in}
 use Rattle.mm_load.proofs.MemberLemmas.{doubled}
 use Rattle.mm_load.proofs.double_name.+check_inside.Given as goal
 

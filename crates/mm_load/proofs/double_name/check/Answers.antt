@@ -1,10 +1,10 @@
 use Rattle.std.proofs.Common.{◌≡◌, ◌<◌, ◌∷◌, [], ◌++◌, Ok, Err, length, map, get_or, ◌∙◌, ap, subst, arith}
 use Rattle.std.proofs.lemmas.Result.{err_from_is_err_and}
-use Rattle.mm_load.specs.Asking.{Tells}
+use Rattle.mm_load.specs.Asking.{Reports}
 use Rattle.mm_load.specs.Rules.{again, member_of, double_in_items}
-use Rattle.mm_load.specs.WrittenItem.{name_of}
+use Rattle.mm_load.proofs.ItemViews.{name_of}
 use Rattle.mm_load.specs.declared.rule.Rule.TheVariants.{DoubleName}
-use Rattle.mm_load.proofs.AskingLemmas.{tells_here, tells_next, handed}
+use Rattle.mm_load.proofs.AskingLemmas.{reports_here, reports_next, handed}
 use Rattle.mm_load.proofs.MemberLemmas.{names_more, members_kept, members_fault, members_all}
 use Rattle.mm_load.proofs.double_name.check.Goals as goal
 
@@ -17,8 +17,8 @@ returns-in_err-check_name c =
     let within : i < length items = c.loop-item-test.true in
     let at : x ≡ get_or items i x = c.item-item.is in
     let e = c.in_err-check_name.field-0.0 in
-    let told = tells_here DoubleName (again keys (name_of x).text (name_of x).at) (member_of x).inside e (subst (λ name. Tells DoubleName (again keys name (name_of x).at) (Err e)) c.as_slice.ensures c.in_err-check_name.ensures.answer) in
-    handed DoubleName (double_in_items items) c.from_residual.result e (err_from_is_err_and c.from_residual.result c.from_residual.ensures.1) (members_fault items i x within at keys e c.loop-item.invariant.0 c.loop-item.invariant.1 told)
+    let reported = reports_here DoubleName (again keys (name_of x).text (name_of x).at) (member_of x).inside e (subst (λ name. Reports DoubleName (again keys name (name_of x).at) (Err e)) c.as_slice.ensures c.in_err-check_name.ensures.answer) in
+    handed DoubleName (double_in_items items) c.from_residual.result e (err_from_is_err_and c.from_residual.result c.from_residual.ensures.1) (members_fault items i x within at keys e c.loop-item.invariant.0 c.loop-item.invariant.1 reported)
 
 pub returns-in_err-check_inside : goal.returns-in_err-check_inside
 returns-in_err-check_inside c =
@@ -29,9 +29,9 @@ returns-in_err-check_inside c =
     let within : i < length items = c.loop-item-test.true in
     let at : x ≡ get_or items i x = c.item-item.is in
     let e = c.in_err-check_inside.field-0.0 in
-    let name_told = subst (λ name. Tells DoubleName (again keys name (name_of x).at) (Ok tt)) c.as_slice.ensures c.in_ok-check_name.ensures.answer in
-    let told = tells_next DoubleName (again keys (name_of x).text (name_of x).at) (member_of x).inside tt (Err e) name_told c.in_err-check_inside.ensures in
-    handed DoubleName (double_in_items items) c.from_residual-in_err-check_inside.result e (err_from_is_err_and c.from_residual-in_err-check_inside.result c.from_residual-in_err-check_inside.ensures.1) (members_fault items i x within at keys e c.loop-item.invariant.0 c.loop-item.invariant.1 told)
+    let name_reported = subst (λ name. Reports DoubleName (again keys name (name_of x).at) (Ok tt)) c.as_slice.ensures c.in_ok-check_name.ensures.answer in
+    let reported = reports_next DoubleName (again keys (name_of x).text (name_of x).at) (member_of x).inside tt (Err e) name_reported c.in_err-check_inside.ensures in
+    handed DoubleName (double_in_items items) c.from_residual-in_err-check_inside.result e (err_from_is_err_and c.from_residual-in_err-check_inside.result c.from_residual-in_err-check_inside.ensures.1) (members_fault items i x within at keys e c.loop-item.invariant.0 c.loop-item.invariant.1 reported)
 
 pub loop-item-preserved : goal.loop-item-preserved
 loop-item-preserved c =
@@ -41,10 +41,10 @@ loop-item-preserved c =
     let keys = map (λ k. k.now) c.loop-item.seen.keys in
     let within : i < length items = c.loop-item-test.true in
     let at : x ≡ get_or items i x = c.item-item.is in
-    let name_told = subst (λ name. Tells DoubleName (again keys name (name_of x).at) (Ok tt)) c.as_slice.ensures c.in_ok-check_name.ensures.answer in
-    let told = tells_next DoubleName (again keys (name_of x).text (name_of x).at) (member_of x).inside tt (Ok tt) name_told c.in_ok-check_inside.ensures in (
+    let name_reported = subst (λ name. Reports DoubleName (again keys name (name_of x).at) (Ok tt)) c.as_slice.ensures c.in_ok-check_name.ensures.answer in
+    let reported = reports_next DoubleName (again keys (name_of x).text (name_of x).at) (member_of x).inside tt (Ok tt) name_reported c.in_ok-check_inside.ensures in (
       names_more items i x within at keys _ c.loop-item.invariant.0 (c.in_ok-check_name.ensures.seen ∙ ap (λ name. keys ++ name ∷ []) c.as_slice.ensures),
-      members_kept items i x within at keys c.loop-item.invariant.0 c.loop-item.invariant.1 told,
+      members_kept items i x within at keys c.loop-item.invariant.0 c.loop-item.invariant.1 reported,
     )
 
 pub returns : goal.returns

@@ -1,6 +1,6 @@
 use Rattle.std.proofs.Common.{Err, map, subst, arith}
 use Rattle.std.proofs.lemmas.Result.{err_from_is_err_and}
-use Rattle.mm_load.specs.Asking.{Tells}
+use Rattle.mm_load.specs.Asking.{Reports}
 use Rattle.mm_load.specs.Rules.{again, repeated}
 use Rattle.mm_load.specs.declared.rule.Rule.TheVariants.{DoubleName}
 use Rattle.mm_load.proofs.AskingLemmas.{along_fault, along_all, handed}
@@ -12,9 +12,9 @@ returns-in_err-check_name c =
     let e = c.in_err-check_name.field-0.0 in
     let xs = c.args.names.now in
     let x = c.name-item.result in
-    let told = subst (λ ns. Tells DoubleName (again ns x.text x.at) (Err e)) c.loop-name.invariant.0 (subst (λ name. Tells DoubleName (again (map (λ k. k.now) c.loop-name.seen.keys) name x.at) (Err e)) c.as_slice.ensures c.in_err-check_name.ensures.answer) in
+    let reported = subst (λ ns. Reports DoubleName (again ns x.text x.at) (Err e)) c.loop-name.invariant.0 (subst (λ name. Reports DoubleName (again (map (λ k. k.now) c.loop-name.seen.keys) name x.at) (Err e)) c.as_slice.ensures c.in_err-check_name.ensures.answer) in
     handed DoubleName (repeated xs) c.from_residual.result e (err_from_is_err_and c.from_residual.result c.from_residual.ensures.1)
-    (along_fault (λ before name. again (map (λ n. n.text) before) name.text name.at) xs c.loop-name.name-index DoubleName x e c.loop-name.invariant.1 c.loop-name-test.true c.name-item.is told)
+    (along_fault (λ before name. again (map (λ n. n.text) before) name.text name.at) xs c.loop-name.name-index DoubleName x e c.loop-name.invariant.1 c.loop-name-test.true c.name-item.is reported)
 
 pub returns : goal.returns
 unfolding repeated

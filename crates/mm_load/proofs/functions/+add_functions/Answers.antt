@@ -2,7 +2,8 @@ use Rattle.std.proofs.Common.{◌++◌, map, length, sym, ◌∙◌, ap, arith}
 use Rattle.std.proofs.lemmas.List.{take_all, append_assoc}
 use Rattle.std.specs.List.{flat_map}
 use Rattle.mm_load.specs.Seen.{function_seen}
-use Rattle.mm_load.specs.WrittenItem.{name_of, items_in, defined_by, functions_in, path_in}
+use Rattle.mm_load.specs.WrittenItem.{defined_by, functions_in, path_in}
+use Rattle.mm_load.proofs.ItemViews.{name_of, items_in}
 use Rattle.mm_parse.specs.declared.ast.Item.TheViews.{out-Item}
 use Rattle.mm_load.proofs.ItemLemmas.{functions_in-parts}
 use Rattle.mm_load.proofs.functions.+add_functions.Goals as goal
@@ -10,8 +11,8 @@ use Rattle.mm_load.proofs.functions.+add_functions.Goals as goal
 pub returns : goal.returns
 returns t c =
     let item = c.args.item.now in
-    let front = c.args.front.now in
-    let path = path_in front (name_of item).text in
+    let prefix = c.args.prefix.now in
+    let path = path_in prefix (name_of item).text in
     let old = map function_seen c.args.functions.now.items in
     let all = ap (λ l. old ++ defined_by path (out-Item item).at (out-Item item).form ++ flat_map (λ inner. functions_in inner path) l) (take_all c.loop-inner.inner-index (items_in item) (omega (arith, ap length c.as_slice-inner-items.ensures))) in
-    c.loop-inner.invariant ∙ all ∙ append_assoc old (defined_by path (out-Item item).at (out-Item item).form) (flat_map (λ inner. functions_in inner path) (items_in item)) ∙ ap (λ l. old ++ l) (sym (functions_in-parts item front))
+    c.loop-inner.invariant ∙ all ∙ append_assoc old (defined_by path (out-Item item).at (out-Item item).form) (flat_map (λ inner. functions_in inner path) (items_in item)) ∙ ap (λ l. old ++ l) (sym (functions_in-parts item prefix))

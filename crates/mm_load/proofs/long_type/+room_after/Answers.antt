@@ -2,7 +2,7 @@ use Rattle.std.proofs.Common.{◌≡◌, ◌+◌, ◌-◌, ◌<◌, ◌≤◌, l
 use Rattle.std.proofs.lemmas.List.{take_all}
 use Rattle.std.specs.Option.{SomeIff}
 use Rattle.mm_load.specs.Rules.{type_length}
-use Rattle.mm_load.specs.WrittenType.{children_of}
+use Rattle.mm_load.proofs.TypeViews.{children_of}
 use Rattle.mm_load.proofs.WrittenLemmas.{type_length-parts, sum-take-le}
 use Rattle.mm_load.proofs.long_type.+room_after.Goals as goal
 

@@ -1,6 +1,6 @@
 use Rattle.std.proofs.Common.{◌≡◌, ◌+◌, sum, map, take}
 use Rattle.mm_load.specs.Rules.{type_length}
-use Rattle.mm_load.specs.WrittenType.{children_of}
+use Rattle.mm_load.proofs.TypeViews.{children_of}
 use Rattle.mm_load.proofs.long_type.+room_after.Given as goal
 
 abbrev pub invariant-loop-child : goal.invariant-loop-child

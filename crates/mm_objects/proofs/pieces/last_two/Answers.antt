@@ -14,4 +14,4 @@ returns-in_err-mark c =
     rw (c.from_residual-in_err-mark.ensures, none) refl
 
 pub returns : goal.returns
-returns c = sym (last_two-seen c.args.words.now c.in_ok-last.front.now c.in_ok-mark.front.now _ _ c.in_ok-last.ensures.cases.0 c.in_ok-mark.ensures.cases.0)
+returns c = sym (last_two-seen c.args.words.now c.in_ok-last.prefix.now c.in_ok-mark.prefix.now _ _ c.in_ok-last.ensures.cases.0 c.in_ok-mark.ensures.cases.0)

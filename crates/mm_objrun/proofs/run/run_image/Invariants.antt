@@ -1,6 +1,6 @@
 use Rattle.std.proofs.Common.{◌≡◌, ◌-◌}
-use Rattle.mm_machines.specs.declared.target.Target.{Target}
-use Rattle.mm_machines.specs.declared.target.VtableId.{VtableId}
+use Rattle.mm_objects.specs.declared.target.Target.{Target}
+use Rattle.mm_objects.specs.declared.target.VtableId.{VtableId}
 use Rattle.mm_machines.specs.Image.{image, observed_image}
 use Rattle.mm_machines.specs.Runs.{run}
 use Rattle.mm_objrun.specs.Steps.{state_of}

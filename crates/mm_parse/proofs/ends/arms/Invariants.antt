@@ -1,7 +1,7 @@
 use Rattle.std.proofs.Common.{◌≡◌, ◌-◌, length}
-use Rattle.mm_parse.specs.Parsing.{arm_in, starts_arm}
-use Rattle.mm_parse.specs.Reading.{each_in, with_front}
+use Rattle.mm_parse.specs.BodyParsing.{arm_in, starts_arm}
+use Rattle.mm_parse.specs.Reading.{each_in, with_prefix}
 use Rattle.mm_parse.proofs.ends.arms.Given as goal
 
 abbrev pub invariant-each : goal.invariant-each
-invariant-each l = each_in starts_arm arm_in (length l.tokens) 0 l.tokens ≡ with_front l.arms (each_in starts_arm arm_in (length l.tokens - l.place) l.place l.rest)
+invariant-each l = each_in starts_arm arm_in (length l.tokens) 0 l.tokens ≡ with_prefix l.arms (each_in starts_arm arm_in (length l.tokens - l.index) l.index l.rest)

@@ -1,6 +1,7 @@
 use Rattle.std.proofs.Common.{◌≡◌, ◌+◌, ◌-◌, ◌*◌, length}
-use Rattle.mm_parse.specs.Parsing.{within_in, next_type_in, starts_next}
-use Rattle.mm_parse.specs.Reading.{each_in, first_in, with_front}
+use Rattle.mm_parse.specs.TokenParsing.{starts_next}
+use Rattle.mm_parse.specs.TypeParsing.{within_in, next_type_in}
+use Rattle.mm_parse.specs.Reading.{each_in, first_in, with_prefix}
 use Rattle.mm_parse.proofs.types.+types.Given as goal
 
 abbrev pub decreases-within : goal.decreases-within
@@ -28,7 +29,7 @@ abbrev pub decreases-shape : goal.decreases-shape
 decreases-shape l = 7 * l.levels + 5
 
 abbrev pub invariant-more_types-each : goal.invariant-more_types-each
-invariant-more_types-each l = first_in starts_next (next_type_in (within_in l.levels)) l.fn.first l.tokens ≡ with_front l.types (each_in starts_next (next_type_in (within_in l.levels)) (length l.tokens - l.place) l.place l.rest)
+invariant-more_types-each l = first_in starts_next (next_type_in (within_in l.levels)) l.fn.first l.tokens ≡ with_prefix l.types (each_in starts_next (next_type_in (within_in l.levels)) (length l.tokens - l.index) l.index l.rest)
 
 abbrev pub decreases-node : goal.decreases-node
 decreases-node l = 7 * l.levels + 6

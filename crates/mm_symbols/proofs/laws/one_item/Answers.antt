@@ -1,5 +1,5 @@
-use Rattle.mm_symbols.proofs.ItemLaws.{item_told}
+use Rattle.mm_symbols.proofs.ItemLaws.{item_reported}
 use Rattle.mm_symbols.proofs.laws.one_item.Goals as goal
 
 pub returns : goal.returns
-returns c = λ p x y names is also same. item_told p names x y is also same
+returns c = λ p x y names is also same. item_reported p names x y is also same

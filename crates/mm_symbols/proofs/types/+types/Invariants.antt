@@ -1,6 +1,6 @@
 use Rattle.std.proofs.Common.{◌≡◌, ◌+◌, ◌-◌, ◌*◌, length}
 use Rattle.mm_symbols.specs.Reading.{within_in, each_in}
-use Rattle.mm_symbols.proofs.Loops.{with_front}
+use Rattle.mm_symbols.proofs.Loops.{with_prefix}
 use Rattle.mm_symbols.proofs.types.+types.Given as goal
 
 abbrev pub decreases-within : goal.decreases-within
@@ -37,4 +37,4 @@ abbrev pub decreases-node : goal.decreases-node
 decreases-node l = 9 * l.levels + 7
 
 abbrev pub invariant-each_type-each : goal.invariant-each_type-each
-invariant-each_type-each l = each_in (within_in l.levels) (length l.bytes) l.bytes ≡ with_front l.types (each_in (within_in l.levels) (length l.bytes - l.place) l.rest)
+invariant-each_type-each l = each_in (within_in l.levels) (length l.bytes) l.bytes ≡ with_prefix l.types (each_in (within_in l.levels) (length l.bytes - l.place) l.rest)

@@ -8,10 +8,10 @@ pub write_signature-returns : goal.write_signature-returns
 write_signature-returns t c =
     let params = c.split_at.result.0.now in
     let result = c.split_at.result.1.now in
-    let front = concat (map type_text params) ++ codes "E" in
+    let prefix = concat (map type_text params) ++ codes "E" in
     let back = concat (map type_text result) in
-    let middle : c.write_until_end.new.out.items ≡ c.args.out.now.items ++ front = c.in_ok-write_until_end.ensures in
-    let joined : c.write_until_end.new.out.items ++ back ≡ c.args.out.now.items ++ (front ++ back) = ap (λ text. text ++ back) middle ∙ append_assoc c.args.out.now.items front back in
+    let middle : c.write_until_end.new.out.items ≡ c.args.out.now.items ++ prefix = c.in_ok-write_until_end.ensures in
+    let joined : c.write_until_end.new.out.items ++ back ≡ c.args.out.now.items ++ (prefix ++ back) = ap (λ text. text ++ back) middle ∙ append_assoc c.args.out.now.items prefix back in
     let types = c.as_slice-types.result.now in
     subst (λ text. OnOk c.write_types.result (c.write_types.new.out.items ≡ text))
     (joined ∙ ap (λ text. c.args.out.now.items ++ text) (signature_is types params result c.saturating_sub.result c.saturating_sub.ensures c.split_at.ensures.front c.split_at.ensures.back ∙ ap (λ ts. signature_text (map type_text ts)) c.as_slice-types.ensures))

@@ -1,8 +1,8 @@
 use Rattle.std.proofs.Common.{subst, sym}
-use Rattle.mm_collect.specs.Verdict.{IsAccepted}
+use Rattle.mm_program.specs.Verdict.{IsAccepted}
 use Rattle.mm_tool.specs.Report.{Tells, IsVerdict}
 use Rattle.mm_tool.proofs.CompleteItems.{items_complete}
-use Rattle.mm_tool.proofs.Verdicts.{IfOk-then, told}
+use Rattle.mm_tool.proofs.Verdicts.{IfOk-then, reported}
 use Rattle.mm_tool.proofs.answer.judge.Goals as goal
 
 pub accept-requires : goal.accept-requires
@@ -12,4 +12,4 @@ accept-requires c =
 
 pub returns-in-Err : goal.returns-in-Err
 returns-in-Err c = IfOk-then c.refuse.result (λ answer. Tells c.args.p.now c.in-Err.fault answer.status answer.output.items) (λ answer. IsVerdict c.args.product c.args.p.now c.args.opts.now answer.status answer.output.items) c.refuse.ensures
-    (λ answer. told c.args.p.now c.args.opts.now c.collect.result c.args.product c.in-Err.fault c.in-Err.is c.collect.ensures.too_many c.collect.ensures.too_long answer.status answer.output.items)
+    (λ answer. reported c.args.p.now c.args.opts.now c.collect.result c.args.product c.in-Err.fault c.in-Err.is c.collect.ensures.too_many c.collect.ensures.too_long answer.status answer.output.items)

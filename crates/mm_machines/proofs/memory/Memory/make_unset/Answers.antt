@@ -1,5 +1,5 @@
 use Rattle.std.proofs.Common.{◌∙◌, ◌+◌, ◌-◌, ap, sym, replicate}
-use Rattle.mm_machines.specs.Answers.{blocks_of}
+use Rattle.mm_machines.specs.Answers.{allocations_of}
 use Rattle.mm_machines.specs.Memory.{with_locals}
 use Rattle.mm_machines.specs.Values.{uninit}
 use denote.Hole.Carrier.{roll}
@@ -14,5 +14,5 @@ loop-i-preserved g c =
     let F = g.row.F.Denot in
     let V = g.row.V.Denot in
     ap (with_locals F V (replicate (c.args.count - (c.loop-i.i + 1)) (uninit F V))) c.in_ok-make.ensures.made
-    ∙ sym (one_unset F V c.args.count c.loop-i.i (blocks_of F V c.loop-i.self) c.loop-i-test.true)
+    ∙ sym (one_unset F V c.args.count c.loop-i.i (allocations_of F V c.loop-i.self) c.loop-i-test.true)
     ∙ c.loop-i.invariant

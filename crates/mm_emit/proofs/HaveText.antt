@@ -1,9 +1,9 @@
 -- The objects of complete items have a text.
-use Rattle.std.proofs.Common.{◌≡◌, ℕ, ◌+◌, ◌≤◌, List, [], ◌∷◌, ◌++◌, map, length, get_or, flat_map, codes, true, Some, refl, sym, ◌∙◌, ap, subst, arith}
+use Rattle.std.proofs.Common.{◌≡◌, ℕ, ◌≤◌, List, [], ◌∷◌, ◌++◌, map, length, codes, true, Some, refl, sym, ◌∙◌, ap, subst, arith}
 use Rattle.std.specs.declared.option.Option.{Option}
 use Rattle.std.specs.Prelude.{All, Contains}
-use Rattle.std.proofs.lemmas.List.{append_assoc, append-nil, length-map, get_or-map, get_or_default}
-use Rattle.std.proofs.lemmas.List.Elements.{All-nil, All-cons, All-head, All-contains, All-map, Contains-append_left, Contains-append_right}
+use Rattle.std.proofs.lemmas.List.{append_assoc, append-nil, length-map}
+use Rattle.std.proofs.lemmas.List.Elements.{All-nil, All-cons, All-head, All-contains, All-map}
 use Rattle.mm_terms.specs.declared.tree.Tree.{Tree}
 use Rattle.mm_terms.specs.declared.item.Item.{Item}
 use Rattle.mm_terms.specs.declared.item.Item.TheVariants.{Fn, Glue, Shim, Static}
@@ -21,12 +21,11 @@ use Rattle.mm_program.specs.declared.program.Operand.TheVariants as operand
 use Rattle.mm_program.specs.declared.program.Arm.{Arm}
 use Rattle.mm_program.specs.declared.program.End.{End}
 use Rattle.mm_program.specs.declared.program.End.TheVariants as end
-use Rattle.mm_program.specs.declared.program.Call.{Call}
 use Rattle.mm_program.specs.Roots.{main_item}
 use Rattle.mm_program.specs.Uses.{end_calls, calls_of, called, body_candidates, candidates_of}
 use Rattle.mm_program.specs.WellFormed.{IsBlockIn, IsEndIn, IsFunctionIn, IsInstanceIn, IsLabelOf, IsOperandOf, IsPlaceOf, IsRvalueOf, IsStatementOf}
 use Rattle.mm_terms.proofs.ListLemmas.{All-slice_get, All-from_map, All-both, All-from_contains, All-from_flat_map}
-use Rattle.mm_lex.specs.LexTokens.{IsName}
+use Rattle.mm_names.specs.Names.{IsName}
 use Rattle.mm_symbols.specs.ItemForms.{form_of, depth_of}
 use Rattle.mm_symbols.specs.SymbolForms.{IsSymbolOf}
 use Rattle.mm_symbols.proofs.ItemLaws.{form_within}

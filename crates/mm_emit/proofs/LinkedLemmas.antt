@@ -1,5 +1,5 @@
 -- The objects of complete items are linked, and their image does what the program does.
-use Rattle.std.proofs.Common.{◌≡◌, ℕ, ◌+◌, ◌<◌, ◌⊎◌, inl, inr, Bool, false, cond, List, [], ◌∷◌, ◌++◌, map, get_or, flat_map, Some, None, refl, sym, ◌∙◌, ap, subst, arith}
+use Rattle.std.proofs.Common.{◌≡◌, ℕ, ◌<◌, ◌⊎◌, inl, inr, Bool, false, cond, List, [], ◌∷◌, ◌++◌, map, get_or, flat_map, Some, None, refl, sym, ◌∙◌, ap, subst, arith}
 use Rattle.std.specs.declared.option.Option.{Option}
 use Rattle.std.specs.declared.cmp.Ordering.TheVariants.{Less}
 use Rattle.std.specs.Prelude.{Contains, slice_get, is_none}
@@ -24,7 +24,6 @@ use Rattle.mm_terms.specs.Same.{same_item, items_equal}
 use Rattle.mm_program.specs.declared.program.Program.{Program}
 use Rattle.mm_program.specs.declared.program.Function.{Function}
 use Rattle.mm_program.specs.declared.program.Block.{Block}
-use Rattle.mm_program.specs.declared.program.Call.{Call}
 use Rattle.mm_program.specs.declared.program.End.{End}
 use Rattle.mm_program.specs.declared.program.End.TheVariants as end
 use Rattle.mm_program.specs.Roots.{main_item}

@@ -1,10 +1,9 @@
 -- Laws of the readers of the first line of a function, of labels, and of lines with a name.
 use Rattle.std.proofs.Common.{◌≡◌, ℕ, ◌<◌, ◌≤◌, ◌^◌, ◌-◌, eqb, ltb, ◌&&◌, List, [], ◌∷◌, ◌++◌, codes, Some, None, refl, ap, sym, ◌∙◌, subst, arith}
 use Rattle.std.specs.Fmt.{decimal}
-use Rattle.std.proofs.lemmas.Bool.{ltb-true, lt-ltb, eqb-true}
+use Rattle.std.proofs.lemmas.Bool.{and_parts, ltb-true, lt-ltb, eqb-true}
 use Rattle.std.proofs.lemmas.Option.{cond_some}
-use Rattle.mm_lex.specs.LexReading.{number_in}
-use Rattle.mm_lex.proofs.LexRunLemmas.{both}
+use Rattle.mm_names.specs.Decimals.{number_in}
 use Rattle.mm_objects.specs.declared.objects.Linkage.{Linkage}
 use Rattle.mm_objects.specs.declared.progress.Header.{Header}
 use Rattle.mm_objects.specs.ObjectNames.{IsCodeSymbol}
@@ -44,7 +43,7 @@ counts-sound symbol link ws h e =
     let locals = bind_some (number_in 65536 y.0.0) _ h y.2 in
     let blocks = bind_some (number_in (2 ^ 64 - 1) y.0.1) _ h locals.2 in
     let c = cond_some (ltb params.0 locals.0 && ltb 0 blocks.0) (record { symbol = symbol; link = link; params = params.0; locals = locals.0; blocks = blocks.0 }) h blocks.2 in
-    let tests = both (ltb params.0 locals.0) (ltb 0 blocks.0) c.0 in
+    let tests = and_parts (ltb params.0 locals.0) (ltb 0 blocks.0) c.0 in
     let p = (number-reads 65535 (omega arith)).sound x.0.0 params.0 params.1 in
     let l = (number-reads 65536 (omega arith)).sound y.0.0 locals.0 locals.1 in
     let b = (number-reads (2 ^ 64 - 1) (omega arith)).sound y.0.1 blocks.0 blocks.1 in

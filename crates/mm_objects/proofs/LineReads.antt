@@ -3,7 +3,7 @@ use Rattle.std.proofs.Common.{◌≡◌, ℕ, ◌<◌, ◌^◌, ◌-◌, true, f
 use Rattle.std.specs.List.{slice_split, join_with_byte, list_all}
 use Rattle.std.specs.Char.{is_ascii_digit}
 use Rattle.std.specs.Fmt.{decimal}
-use Rattle.std.proofs.lemmas.Bool.{eqb-true, false_from_ne_true, both_ways}
+use Rattle.std.proofs.lemmas.Bool.{and_parts, eqb-true, false_from_ne_true, both_ways}
 use Rattle.std.proofs.lemmas.List.Elements.{All-nil, All-cons, All-head, All-tail}
 use Rattle.std.proofs.lemmas.List.Splits.{slice_split_at, slice_split_none, join_with_byte-slice_split}
 use Rattle.mm_program.specs.declared.program.Op.{Op}
@@ -16,9 +16,8 @@ use Rattle.mm_objects.specs.declared.objects.ObjRvalue.TheVariants as rvalues
 use Rattle.mm_objects.specs.declared.objects.ObjOperand.{ObjOperand}
 use Rattle.mm_objects.specs.declared.objects.ObjEnd.{ObjEnd}
 use Rattle.mm_objects.specs.declared.objects.ObjEnd.TheVariants as ends
-use Rattle.mm_lex.specs.LexReading.{number_in}
-use Rattle.mm_lex.proofs.LexNumberLemmas.{decimal-digits}
-use Rattle.mm_lex.proofs.LexRunLemmas.{both}
+use Rattle.mm_names.specs.Decimals.{number_in}
+use Rattle.mm_names.proofs.Numerals.{decimal-digits}
 use Rattle.mm_objects.specs.ObjectText.{Word, Line, operand_text, op_text, rvalue_words, instr_words, arm_text, end_words}
 use Rattle.mm_objects.specs.ObjectForms.{IsBelow, IsOperand, IsRvalue, IsInstr, IsArm, IsEnd}
 use Rattle.mm_objects.specs.LineReading.{below_in, place_in, operand_in, op_in, callee_in, first_of, only_of, both_of, if_done, before, last_two, all_in, arm_in, one_operand_in, binary_in, rvalue_in, set_in, instr_in, goto_in, listed_in, switch_in, call_in, end_in}
@@ -211,7 +210,7 @@ listed-again mark blocks prefix k is = rw (last_two-at prefix mark (decimal k), 
 no_colon : (ds : List ℕ) → list_all is_ascii_digit ds ≡ true → All (λ b. eqb b 58 ≡ false) ds
 no_colon [] h = All-nil (λ b. eqb b 58 ≡ false)
 no_colon (d ∷ ds) h =
-    let p = both (is_ascii_digit d) (list_all is_ascii_digit ds) h in
+    let p = and_parts (is_ascii_digit d) (list_all is_ascii_digit ds) h in
     let apart : eqb d 58 ≡ false = false_from_ne_true (eqb d 58) (λ e. both_ways (is_ascii_digit 58) refl (subst (λ c. is_ascii_digit c ≡ true) (eqb-true d 58 e) p.0)) in
     All-cons (λ b. eqb b 58 ≡ false) d ds apart (no_colon ds p.1)
 

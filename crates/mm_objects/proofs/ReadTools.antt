@@ -5,16 +5,15 @@ use Rattle.std.specs.Option.{option_or}
 use Rattle.std.specs.Str.{bytes_eq}
 use Rattle.std.specs.Fmt.{decimal}
 use Rattle.std.specs.Char.{is_ascii_digit}
-use Rattle.std.proofs.lemmas.Bool.{ltb-true, lt-ltb, false_from_ne_true, both_ways}
+use Rattle.std.proofs.lemmas.Bool.{and_parts, ltb-true, lt-ltb, false_from_ne_true, both_ways}
 use Rattle.std.proofs.lemmas.Bool.Decides.{nat_tests}
 use Rattle.std.proofs.lemmas.Fmt.{decimal_nonempty}
 use Rattle.std.proofs.lemmas.List.{take-append-drop}
 use Rattle.std.proofs.Math.Seq.{take-append_seam, drop-append_seam}
 use Rattle.std.proofs.lemmas.Option.{cond_some}
 use Rattle.std.proofs.lemmas.Slice.Eq.{bytes_eq-Decides}
-use Rattle.mm_lex.specs.LexReading.{number_in}
-use Rattle.mm_lex.proofs.LexNumberLemmas.{number_in-writes, number_in-decimal, decimal-digits}
-use Rattle.mm_lex.proofs.LexRunLemmas.{both}
+use Rattle.mm_names.specs.Decimals.{number_in}
+use Rattle.mm_names.proofs.Numerals.{number_in-writes, number_in-decimal, decimal-digits}
 use Rattle.mm_objects.specs.ObjectText.{Word}
 use Rattle.mm_objects.specs.ObjectForms.{IsBelow}
 use Rattle.mm_objects.specs.LineReading.{◌>>=◌, behind, below_in}
@@ -101,7 +100,7 @@ pub record BeginsWithDigit (word : Word) : Type 0 where
 
 digit_first : (w : Word) → list_all is_ascii_digit w ≡ true → 0 < length w → BeginsWithDigit w
 digit_first [] all some = absurd (omega arith)
-digit_first (c ∷ cs) all some = record { first = c; others = cs; is = refl; digit = (both (is_ascii_digit c) (list_all is_ascii_digit cs) all).0 }
+digit_first (c ∷ cs) all some = record { first = c; others = cs; is = refl; digit = (and_parts (is_ascii_digit c) (list_all is_ascii_digit cs) all).0 }
 
 pub decimal-begins : (n : ℕ) → n < 2 ^ 64 → BeginsWithDigit (decimal n)
 decimal-begins n h = digit_first (decimal n) (decimal-digits n h) (decimal_nonempty n h)

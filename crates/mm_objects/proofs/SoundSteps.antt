@@ -2,10 +2,9 @@
 use Rattle.std.proofs.Common.{◌≡◌, ◌≢◌, ℕ, ◌<◌, ◌≤◌, ◌+◌, Bool, true, false, cond, eqb, ◌&&◌, List, [], ◌∷◌, ◌++◌, length, map, codes, All, Option, Some, None, refl, ap, sym, ◌∙◌, subst, arith, append_assoc, append-nil, length-append, inl, inr, flat_map}
 use Rattle.std.specs.List.{enumerate_from}
 use Rattle.std.specs.Str.{bytes_eq}
-use Rattle.std.proofs.lemmas.Bool.{eqb-true, eqb-false}
+use Rattle.std.proofs.lemmas.Bool.{and_parts, eqb-true, eqb-false}
 use Rattle.std.proofs.lemmas.Grind.{flat_map-append}
 use Rattle.std.proofs.lemmas.List.Elements.{All-nil, All-cons, All-append}
-use Rattle.mm_lex.proofs.LexRunLemmas.{both}
 use Rattle.mm_objects.specs.declared.objects.Objects.{Objects}
 use Rattle.mm_objects.specs.declared.objects.ObjUnit.{ObjUnit}
 use Rattle.mm_objects.specs.declared.objects.ObjDef.{ObjDef}
@@ -193,7 +192,7 @@ last-step several before o ws q h are lines =
 -- the test of a word together with another
 also : (several : Bool) (w key : Word) (x : Option Progress) (q : Progress) → cond (several && bytes_eq w key) x None ≡ Some q → (several ≡ true) × (w ≡ key) × (x ≡ Some q)
 also several w key x q h = elim (chosen (several && bytes_eq w key) x None (Some q) h) [
-  | inl p ↦ let t = both several (bytes_eq w key) p.0 in (t.0, word_is w key t.1, p.1)
+  | inl p ↦ let t = and_parts several (bytes_eq w key) p.0 in (t.0, word_is w key t.1, p.1)
   | inr n ↦ absurd (cc)
 ]
 

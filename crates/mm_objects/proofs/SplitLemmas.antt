@@ -1,9 +1,9 @@
 -- Words and lines are cut where they were joined.
 use Rattle.std.proofs.Common.{◌≡◌, ℕ, Bool, true, false, not, ◌||◌, eqb, List, [], ◌∷◌, ◌++◌, map, All, refl, ap, sym, ◌∙◌, append_assoc, append-nil, flat_map}
+use Rattle.std.proofs.lemmas.Bool.{and_parts}
 use Rattle.std.specs.List.{list_all, slice_split, join_with_byte}
 use Rattle.std.proofs.lemmas.List.Elements.{All-nil, All-cons, All-head, All-tail, All-append}
 use Rattle.std.proofs.lemmas.List.Splits.{slice_split_at, slice_split_none, join_with_byte-slice_split}
-use Rattle.mm_lex.proofs.LexRunLemmas.{both}
 use Rattle.mm_objects.specs.declared.objects.Objects.{Objects}
 use Rattle.mm_objects.specs.ObjectText.{Word, Line, line_text, written, lines_of, objects_text}
 use Rattle.mm_objects.specs.ObjectForms.{AreObjects}
@@ -31,16 +31,16 @@ graphic-is c h = parts (eqb c 32) (eqb c 10) h
 
 clean-no_blank : (w : Word) → IsClean w → HasNo 32 w
 clean-no_blank [] h = All-nil (λ b. eqb b 32 ≡ false)
-clean-no_blank (c ∷ cs) h = let p = both (is_graphic c) (list_all is_graphic cs) h in All-cons (λ b. eqb b 32 ≡ false) c cs (graphic-is c p.0).0 (clean-no_blank cs p.1)
+clean-no_blank (c ∷ cs) h = let p = and_parts (is_graphic c) (list_all is_graphic cs) h in All-cons (λ b. eqb b 32 ≡ false) c cs (graphic-is c p.0).0 (clean-no_blank cs p.1)
 
 clean-no_end : (w : Word) → IsClean w → HasNo 10 w
 clean-no_end [] h = All-nil (λ b. eqb b 10 ≡ false)
-clean-no_end (c ∷ cs) h = let p = both (is_graphic c) (list_all is_graphic cs) h in All-cons (λ b. eqb b 10 ≡ false) c cs (graphic-is c p.0).1 (clean-no_end cs p.1)
+clean-no_end (c ∷ cs) h = let p = and_parts (is_graphic c) (list_all is_graphic cs) h in All-cons (λ b. eqb b 10 ≡ false) c cs (graphic-is c p.0).1 (clean-no_end cs p.1)
 
 cut-words : (w : Word) (ws : Line) → AreClean (w ∷ ws) → cut_at 32 (join_with_byte 32 (w ∷ ws)) ≡ w ∷ ws
-cut-words w [] all = slice_split_none (λ b. eqb b 32) w (clean-no_blank w (both (list_all is_graphic w) true all).0)
+cut-words w [] all = slice_split_none (λ b. eqb b 32) w (clean-no_blank w (and_parts (list_all is_graphic w) true all).0)
 cut-words w (v ∷ vs) all =
-    let p = both (list_all is_graphic w) (list_all (list_all is_graphic) (v ∷ vs)) all in
+    let p = and_parts (list_all is_graphic w) (list_all (list_all is_graphic) (v ∷ vs)) all in
     slice_split_at (λ b. eqb b 32) w 32 (join_with_byte 32 (v ∷ vs)) (clean-no_blank w p.0) refl
     ∙ ap (λ l. w ∷ l) (cut-words v vs p.1)
 
@@ -50,9 +50,9 @@ cut-line [] is = absurd (is.some refl)
 cut-line (w ∷ ws) is = cut-words w ws is.each
 
 words-no_end : (w : Word) (ws : Line) → AreClean (w ∷ ws) → HasNo 10 (join_with_byte 32 (w ∷ ws))
-words-no_end w [] all = clean-no_end w (both (list_all is_graphic w) true all).0
+words-no_end w [] all = clean-no_end w (and_parts (list_all is_graphic w) true all).0
 words-no_end w (v ∷ vs) all =
-    let p = both (list_all is_graphic w) (list_all (list_all is_graphic) (v ∷ vs)) all in
+    let p = and_parts (list_all is_graphic w) (list_all (list_all is_graphic) (v ∷ vs)) all in
     All-append (λ b. eqb b 10 ≡ false) w (32 ∷ join_with_byte 32 (v ∷ vs)) (clean-no_end w p.0)
     (All-cons (λ b. eqb b 10 ≡ false) 32 (join_with_byte 32 (v ∷ vs)) refl (words-no_end v vs p.1))
 

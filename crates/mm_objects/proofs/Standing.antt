@@ -1,10 +1,9 @@
 -- Where definitions stand: what a reference names stands at its place.
-use Rattle.std.specs.Prelude.{◌≡◌, ℕ, suc, ◌+◌, Bool, true, false, cond, List, [], ◌∷◌, flat_map, All, Option, None, Some, slice_get, get_or, IfSome}
+use Rattle.std.specs.Prelude.{◌≡◌, ℕ, ◌+◌, List, All, Option, None, Some, slice_get, IfSome}
 use Rattle.std.specs.List.{Contains, enumerate_from, find}
 use Rattle.std.specs.Option.{option_or}
-use Rattle.std.proofs.Common.{◌∙◌, refl, ap, arith, subst}
-use Rattle.std.proofs.lemmas.List.{get_or_default}
-use Rattle.std.proofs.lemmas.List.Elements.{All-nil, All-cons, All-head, All-tail, All-append, All-map, All-contains_itself}
+use Rattle.std.proofs.Common.{◌∙◌, ap, arith, subst}
+use Rattle.std.proofs.lemmas.List.Elements.{All-map, All-contains_itself}
 use Rattle.mm_objects.specs.declared.objects.ObjUnit.{ObjUnit}
 use Rattle.mm_objects.specs.Resolution.{Placed, placed, placed_in, is_own, is_shared, resolve, def_in, def_at, target_of}
 use Rattle.mm_terms.proofs.ListLemmas.{All-flat_map, All-enumerate, All-find}

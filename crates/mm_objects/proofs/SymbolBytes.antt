@@ -2,13 +2,12 @@
 use Rattle.std.proofs.Common.{◌≡◌, ℕ, zero, suc, ◌<◌, ◌≤◌, ◌^◌, Bool, true, false, not, ◌||◌, ◌==◌, eqb, List, [], ◌∷◌, ◌++◌, length, map, flat_map, codes, decimal, Option, None, Some, All, lit<, lit≤, refl, sym, subst, arith, inl, inr, ◌⊎◌}
 use Rattle.std.specs.List.{list_all, concat}
 use Rattle.std.specs.Char.{is_ascii_digit}
-use Rattle.std.proofs.lemmas.Bool.{eqb-true, false_from_ne_true, both_ways}
+use Rattle.std.proofs.lemmas.Bool.{and_parts, eqb-true, false_from_ne_true, both_ways}
 use Rattle.std.proofs.lemmas.List.Elements.{All-nil, All-cons, All-head, All-tail}
 use Rattle.std.proofs.lemmas.List.Folds.{list_all-append}
-use Rattle.mm_lex.specs.LexTokens.{IsName}
-use Rattle.mm_lex.proofs.LexNameBytes.{IsName-without}
-use Rattle.mm_lex.proofs.LexNumberLemmas.{decimal-digits}
-use Rattle.mm_lex.proofs.LexRunLemmas.{both}
+use Rattle.mm_names.specs.Names.{IsName}
+use Rattle.mm_names.proofs.NameLemmas.{IsName-without}
+use Rattle.mm_names.proofs.Numerals.{decimal-digits}
 use Rattle.mm_symbols.specs.declared.form.SymHead.{SymHead}
 use Rattle.mm_symbols.specs.declared.form.SymHead.TheVariants as heads
 use Rattle.mm_symbols.specs.declared.form.SymType.{SymType}
@@ -41,7 +40,7 @@ digit-graphic d h =
 digits-clean : (ds : List ℕ) → list_all is_ascii_digit ds ≡ true → IsClean ds
 digits-clean [] h = refl
 digits-clean (d ∷ ds) h =
-    let p = both (is_ascii_digit d) (list_all is_ascii_digit ds) h in
+    let p = and_parts (is_ascii_digit d) (list_all is_ascii_digit ds) h in
     rw (digit-graphic d p.0, digits-clean ds p.1) refl
 
 pub number-clean : (n : ℕ) → n < 2 ^ 64 → IsClean (decimal n)

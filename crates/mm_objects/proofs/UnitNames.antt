@@ -1,22 +1,19 @@
 -- Laws of the names of units.
-use Rattle.std.proofs.Common.{◌≡◌, ◌≢◌, ◌↔◌, ◌+◌, IsTrue, Bor, drop, drop-cons, add-one, ℕ, zero, suc, ◌<◌, ◌≤◌, Bool, true, false, not, ◌&&◌, eqb, List, [], ◌∷◌, ◌++◌, length, get_or, codes, Option, None, Some, All, lit<, lit≤, refl, sym, ap, ◌∙◌, subst, arith, append_assoc, append-nil, inl, inr}
+use Rattle.std.proofs.Common.{◌≡◌, ◌+◌, Bor, drop, drop-cons, add-one, ℕ, zero, suc, ◌<◌, ◌≤◌, Bool, true, false, not, ◌&&◌, eqb, List, [], ◌∷◌, ◌++◌, length, get_or, codes, Option, None, Some, All, lit<, lit≤, refl, sym, ap, ◌∙◌, subst, arith, append_assoc, append-nil, inl, inr}
 use Rattle.std.specs.List.{list_all, join_by, join_with_byte, slice_split}
 use Rattle.std.specs.Str.{bytes_eq, IsAscii, chars}
-use Rattle.std.proofs.lemmas.Bool.{or_cases, not-true}
+use Rattle.std.proofs.lemmas.Bool.{and_parts, or_cases, not-true}
 use Rattle.std.proofs.lemmas.List.{drop_all}
 use Rattle.std.proofs.lemmas.List.Elements.{All-nil, All-cons, All-head, All-tail, All-append}
 use Rattle.std.proofs.lemmas.List.Splits.{slice_split_at, slice_split_none, join_with_byte-slice_split}
 use Rattle.std.proofs.lemmas.Option.{cond_some}
 use Rattle.std.proofs.lemmas.Str.{IsUtf8-from_ascii, chars-IsAscii}
-use Rattle.mm_lex.specs.declared.word.Word.{Word as LexWord}
-use Rattle.mm_lex.specs.declared.word.Word.TheVariants as words
-use Rattle.mm_lex.specs.LexWords.{word_spelling}
-use Rattle.mm_lex.specs.LexTokens.{IsName, IsNameLike, is_local_like, is_label_like}
-use Rattle.mm_lex.specs.LexNames.{is_name}
-use Rattle.mm_lex.proofs.LexNameLemmas.{starts_name-ascii}
-use Rattle.mm_lex.proofs.LexNameBytes.{IsName-without}
-use Rattle.mm_lex.proofs.LexNameTests.{is_name-sound, is_name-complete}
-use Rattle.mm_lex.proofs.LexRunLemmas.{both}
+use Rattle.mm_names.specs.Names.{IsName, IsNameLike}
+use Rattle.mm_names.specs.Runs.{word_in, is_name}
+use Rattle.mm_names.proofs.NameLemmas.{starts_name-ascii}
+use Rattle.mm_names.proofs.NameLemmas.{IsName-without}
+use Rattle.mm_names.proofs.WordSpellings.{no_word_spells}
+use Rattle.mm_names.proofs.RunLemmas.{is_name-sound, is_name-complete}
 use Rattle.mm_symbols.specs.SymbolForms.{IsPath}
 use Rattle.mm_objects.specs.ObjectNames.{stability_text, IsUnitName}
 use Rattle.mm_objects.specs.ObjectText.{Word}
@@ -60,8 +57,8 @@ path_cut-sound [] h = absurd (cc)
 path_cut-sound (n ∷ []) h = record { first = n; others = []; each = All-cons IsName n [] (is_name-sound n h) (All-nil IsName); is = sym (append-nil n) }
 path_cut-sound (n ∷ gap ∷ []) h = absurd (cc)
 path_cut-sound (n ∷ gap ∷ m ∷ ms) h =
-    let p = both (is_name n && is_empty gap) (is_path_cut (m ∷ ms)) h in
-    let q = both (is_name n) (is_empty gap) p.0 in
+    let p = and_parts (is_name n && is_empty gap) (is_path_cut (m ∷ ms)) h in
+    let q = and_parts (is_name n) (is_empty gap) p.0 in
     let r = path_cut-sound (m ∷ ms) p.1 in
     record {
       first = n;
@@ -69,15 +66,6 @@ path_cut-sound (n ∷ gap ∷ m ∷ ms) h =
       each = All-cons IsName n (r.first ∷ r.others) (is_name-sound n q.0) r.each;
       is = (λ i. n ++ 58 ∷ (empty_is gap q.1 i ++ 58 ∷ r.is i));
     }
-
--- the test of a name answers as it should
-pub name_test : (bytes : List ℕ) (is : Bool) → IsTrue is ↔ IsName bytes → is ≡ is_name bytes
-name_test bytes true reported = sym (is_name-complete bytes (reported.0 refl))
-name_test bytes false reported = by (is_name bytes) refl
-  where
-    by : (b : Bool) → is_name bytes ≡ b → false ≡ is_name bytes
-    by true h = absurd (let both : false ≡ true = reported.1 (is_name-sound bytes h) in cc)
-    by false h = sym h
 
 -- one turn of the loop over the parts
 pub path_cut-here : (n gap : Word) (parts : List Word) → is_name n ≡ true → is_empty gap ≡ true → is_path_cut (n ∷ gap ∷ parts) ≡ is_path_cut parts
@@ -198,13 +186,13 @@ halves c bytes p h = sym (join_with_byte-slice_split c bytes) ∙ ap (join_with_
 module-by : (bytes krate unit : Word) (o : Option (Word × Word)) → both_of (cut_at 46 unit) ≡ o → IsName krate → bytes ≡ krate ++ 47 ∷ unit → names_module o ≡ true → IsUnitName bytes
 module-by bytes krate unit None is name whole h = absurd (cc)
 module-by bytes krate unit (Some p) is name whole h =
-    let t = both (is_stability p.1) (is_path_cut (cut_at 58 p.0)) h in
+    let t = and_parts (is_stability p.1) (is_path_cut (cut_at 58 p.0)) h in
     unit-module bytes krate unit p.0 p.1 name whole (halves 46 unit p is) t.0 t.1
 
 unit-by : (bytes : Word) (o : Option (Word × Word)) → both_of (cut_at 47 bytes) ≡ o → names_unit o ≡ true → IsUnitName bytes
 unit-by bytes None is h = absurd (cc)
 unit-by bytes (Some p) is h =
-    let t = both (is_name p.0) (names_module (both_of (cut_at 46 p.1))) h in
+    let t = and_parts (is_name p.0) (names_module (both_of (cut_at 46 p.1))) h in
     module-by bytes p.0 p.1 (both_of (cut_at 46 p.1)) refl (is_name-sound p.0 t.0) (halves 47 bytes p is) t.1
 
 pub unit_name-sound : (bytes : Word) → is_unit_name bytes ≡ true → IsUnitName bytes
@@ -214,7 +202,7 @@ unit_name-sound bytes h = unit-by bytes (both_of (cut_at 47 bytes)) refl h
 -- what a list of literal bytes has not
 all_other : (c : ℕ) (bytes : List ℕ) → list_all (λ b. not (eqb b c)) bytes ≡ true → HasNo c bytes
 all_other c [] h = All-nil (λ b. eqb b c ≡ false)
-all_other c (b ∷ bs) h = let p = both (not (eqb b c)) (list_all (λ b. not (eqb b c)) bs) h in All-cons (λ b. eqb b c ≡ false) b bs (not-true (eqb b c) p.0) (all_other c bs p.1)
+all_other c (b ∷ bs) h = let p = and_parts (not (eqb b c)) (list_all (λ b. not (eqb b c)) bs) h in All-cons (λ b. eqb b c ≡ false) b bs (not-true (eqb b c) p.0) (all_other c bs p.1)
 
 stability-no_slash : (stable : Bool) → HasNo 47 (stability_text stable)
 stability-no_slash true = all_other 47 (codes "stable") refl
@@ -284,72 +272,22 @@ unit_name-reads = record {
 
 -- ---- a unit that there is
 
-no_word : (word : LexWord) → word_spelling word ≢ codes "a"
-no_word words.Crate h = cc
-no_word words.Mod h = cc
-no_word words.Pub h = cc
-no_word words.Inline h = cc
-no_word words.Fn h = cc
-no_word words.Closure h = cc
-no_word words.Struct h = cc
-no_word words.Enum h = cc
-no_word words.Trait h = cc
-no_word words.Impl h = cc
-no_word words.For h = cc
-no_word words.Where h = cc
-no_word words.Static h = cc
-no_word words.Const h = cc
-no_word words.Dyn h = cc
-no_word words.Let h = cc
-no_word words.Print h = cc
-no_word words.Return h = cc
-no_word words.Goto h = cc
-no_word words.Switch h = cc
-no_word words.Else h = cc
-no_word words.Call h = cc
-no_word words.Drop h = cc
-no_word words.Unreachable h = cc
-no_word words.Copy h = cc
-no_word words.Move h = cc
-no_word words.True h = cc
-no_word words.False h = cc
-no_word words.New h = cc
-no_word words.Box h = cc
-no_word words.Tuple h = cc
-no_word words.As h = cc
-no_word words.Variant h = cc
-no_word words.Not h = cc
-no_word words.Add h = cc
-no_word words.Sub h = cc
-no_word words.Mul h = cc
-no_word words.Div h = cc
-no_word words.Rem h = cc
-no_word words.Eq h = cc
-no_word words.Lt h = cc
-no_word words.Dyncast h = cc
-no_word words.BoxType h = cc
-no_word words.DropTrait h = cc
-no_word words.CallTrait h = cc
-no_word words.SelfType h = cc
-no_word words.U64 h = cc
-no_word words.Bool h = cc
-no_word words.FnPtr h = cc
-no_word words.FnItem h = cc
-
 a_ascii : IsAscii (codes "a")
 a_ascii zero = lit< tt
 a_ascii (suc i) = lit< tt
 
 name_a : IsName (codes "a")
+unfolding word_in
 name_a =
+    let none : word_in (codes "a") ≡ None = refl in
     let same : chars (codes "a") ≡ codes "a" = chars-IsAscii (codes "a") a_ascii in
     record {
       utf8 = IsUtf8-from_ascii (codes "a") a_ascii;
       form = subst IsNameLike (sym same) (starts_name-ascii 97 (lit< tt), All-nil _);
       short = lit≤ tt;
-      no_word = no_word;
-      no_local = ap is_local_like same;
-      no_label = ap is_label_like same;
+      no_word = no_word_spells (codes "a") none;
+      no_local = refl;
+      no_label = refl;
     }
 
 abbrev pub example_unit : List ℕ

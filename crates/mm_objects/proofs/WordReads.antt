@@ -12,7 +12,7 @@ use Rattle.mm_objects.specs.declared.objects.ObjOperand.{ObjOperand}
 use Rattle.mm_objects.specs.declared.objects.ObjOperand.TheVariants as operands
 use Rattle.mm_objects.specs.declared.objects.ObjCallee.{ObjCallee}
 use Rattle.mm_objects.specs.declared.objects.ObjCallee.TheVariants as callees
-use Rattle.mm_lex.specs.LexReading.{number_in}
+use Rattle.mm_names.specs.Decimals.{number_in}
 use Rattle.mm_objects.specs.ObjectText.{Word, base_text, place_text, operand_text, op_text, linkage_text, callee_text}
 use Rattle.mm_objects.specs.ObjectForms.{IsBase, IsPlace, IsOperand, IsCallee}
 use Rattle.mm_objects.specs.LineReading.{◌>>=◌, behind, below_in, place_in, copied_in, moved_in, truth_in, literal_in, operand_in, op_in, linkage_in, symbol_in, callee_in}

@@ -6,7 +6,7 @@ use Rattle.std.specs.Str.{bytes_eq}
 use Rattle.mm_program.specs.declared.program.Op.{Op}
 use Rattle.mm_program.specs.declared.program.Op.TheVariants.{Add, Sub, Mul, Div, Rem, Eq, Lt}
 use Rattle.mm_program.specs.declared.program.Arm.{Arm}
-use Rattle.mm_lex.specs.LexReading.{number_in}
+use Rattle.mm_names.specs.Decimals.{number_in}
 use Rattle.mm_objects.specs.declared.objects.Linkage.{Linkage}
 use Rattle.mm_objects.specs.declared.objects.Linkage.TheVariants.{External, Internal}
 use Rattle.mm_objects.specs.declared.objects.ObjInstr.{ObjInstr}
@@ -25,7 +25,7 @@ use Rattle.mm_objects.specs.declared.progress.Header.{Header}
 use Rattle.mm_symbols.specs.declared.form.SymbolForm.{SymbolForm}
 use Rattle.mm_symbols.specs.Reading as symbols
 use Rattle.mm_objects.specs.ObjectNames.{is_code}
-use Rattle.mm_lex.specs.LexNames.{is_name}
+use Rattle.mm_names.specs.Runs.{is_name}
 use Rattle.mm_objects.specs.ObjectText.{Word, Line}
 
 infixl 10 ◌>>=◌

@@ -1,5 +1,5 @@
 -- Linking: when definitions clash, which references name nothing, and what is a linked image.
-use Rattle.std.specs.Prelude.{◌≡◌, ◌≢◌, ◌⊎◌, ℕ, Bool, true, List, [], ◌∷◌, flat_map, map, Option, None, Some, is_none, Contains}
+use Rattle.std.specs.Prelude.{◌≡◌, ◌⊎◌, ℕ, Bool, true, List, [], ◌∷◌, flat_map, map, Option, None, Some, is_none, Contains}
 use Rattle.std.specs.Cmp.Lexicographic.{slice_cmp}
 use Rattle.std.specs.List.{enumerate_from, find}
 use Rattle.std.specs.Ordering.{nat_cmp, ordering_then}

@@ -1,7 +1,7 @@
 -- The names that objects have: symbols of functions, and names of units.
 use Rattle.std.specs.Prelude.{◌≡◌, ℕ, Bool, true, false, List, ◌++◌, codes}
 use Rattle.std.specs.List.{join_by}
-use Rattle.mm_lex.specs.LexTokens.{IsName}
+use Rattle.mm_names.specs.Names.{IsName}
 use Rattle.mm_symbols.specs.declared.form.SymItem.{SymItem}
 use Rattle.mm_symbols.specs.declared.form.SymItem.TheVariants as items
 use Rattle.mm_symbols.specs.declared.form.SymbolForm.{SymbolForm}

@@ -9,7 +9,7 @@ use crate::objects::{Linkage, ObjEnd, ObjInstr, ObjOperand, ObjRvalue};
 use crate::pieces::{both, last_two, next, only};
 use crate::progress::Header;
 use crate::words::{behind, callee, cut, is, linkage, operand, operation, place, symbol};
-use mm_lex::decimal;
+use mm_names::decimal;
 use mm_program::{Arm, Op};
 use mm_terms::Text;
 use sqlite_items::Items;

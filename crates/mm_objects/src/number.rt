@@ -1,7 +1,7 @@
 ghost use Rattle.std.specs.Prelude.{◌≡◌};
 ghost use Rattle.mm_objects.specs.LineReading.{below_in};
 
-use mm_lex::decimal;
+use mm_names::decimal;
 
 /// A number below the limit, and below 2^32 in any case.
 #[tactic(auto, unfolding(crate::specs::LineReading::below_in))]

@@ -1,21 +1,21 @@
 ghost use Rattle.std.specs.Prelude.{◌≡◌, ◌==◌, map, IfOk};
 ghost use Rattle.std.specs.List.{slice_split};
-ghost use Rattle.mm_lex.specs.LexNames.{is_name};
+ghost use Rattle.mm_names.specs.Runs.{is_name};
 ghost use Rattle.mm_objects.specs.Given.{Gives};
 ghost use Rattle.mm_objects.specs.LineReading.{is_empty, is_stability, is_path_cut, names_module, names_unit, is_unit_name, unit_name_in, both_of};
 
 use crate::line_error::LineError;
 use crate::pieces::both;
 use crate::words::{cut, is};
-use mm_lex::is_name;
+use mm_names::is_name;
 use mm_terms::Text;
 use std::alloc::{AllocError, Global};
 
 /// Whether a word is a name.
-fn tests_name(alloc: Global, word: &[u8]) -> Result<bool, AllocError>
-    ensures { IfOk result (λ is. is ≡ is_name word.now) }
+fn tests_name(word: &[u8]) -> bool
+    ensures { result ≡ is_name word.now }
 {
-    is_name(alloc, word)
+    is_name(word)
 }
 
 fn is_empty(word: &[u8]) -> bool
@@ -31,23 +31,23 @@ fn is_stability(word: &[u8]) -> bool
 }
 
 /// Whether the parts between the colons of a path are names, and between each two of them a part without bytes.
-fn is_path_cut(alloc: Global, parts: &[&[u8]]) -> Result<bool, AllocError>
-    ensures { IfOk result (λ is. is ≡ is_path_cut (map (λ w. w.now) parts.now)) }
+fn is_path_cut(parts: &[&[u8]]) -> bool
+    ensures { result ≡ is_path_cut (map (λ w. w.now) parts.now) }
 {
     let mut at = 0;
     'each: while at < parts.len() {
-        if !tests_name(alloc, parts[at])? {
-            return Ok(false);
+        if !tests_name(parts[at]) {
+            return false;
         }
         if at + 1 == parts.len() {
-            return Ok(true);
+            return true;
         }
         if !is_empty(parts[at + 1]) {
-            return Ok(false);
+            return false;
         }
         at += 2;
     }
-    Ok(false)
+    false
 }
 
 /// Whether a word is the path of a module, and whether its unit is stable or volatile.
@@ -62,7 +62,7 @@ fn names_module(alloc: Global, word: &[u8]) -> Result<bool, AllocError>
         return Ok(false);
     }
     let names = cut(alloc, path, b':')?;
-    is_path_cut(alloc, &names)
+    Ok(is_path_cut(&names))
 }
 
 /// Whether a word is the name of a unit.
@@ -74,7 +74,7 @@ fn is_unit_name(alloc: Global, word: &[u8]) -> Result<bool, AllocError>
     let Some((krate, unit)) = both(&parts) else {
         return Ok(false);
     };
-    if !tests_name(alloc, krate)? {
+    if !tests_name(krate) {
         return Ok(false);
     }
     names_module(alloc, unit)

@@ -9,7 +9,7 @@ ghost use Rattle.mm_objects.specs.Given.{Gives};
 use crate::line_error::LineError;
 use crate::number::number_below;
 use crate::objects::{Linkage, ObjBase, ObjCallee, ObjOperand, ObjPlace};
-use mm_lex::decimal;
+use mm_names::decimal;
 use mm_program::Op;
 use mm_symbols::{SymItem, SymbolForm, read_symbol};
 use mm_terms::Text;

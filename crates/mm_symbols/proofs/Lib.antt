@@ -1,4 +1,3 @@
-pub mod NameLemmas
 pub mod Loops
 pub mod Levels
 pub mod TextLemmas

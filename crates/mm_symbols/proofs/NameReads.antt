@@ -4,7 +4,7 @@ use Rattle.std.specs.Prelude.{All, decimal}
 use Rattle.std.specs.List.{prefix_len, list_all}
 use Rattle.std.specs.Char.{is_ascii_digit}
 use Rattle.std.specs.Str.{chars}
-use Rattle.std.proofs.lemmas.Bool.{leb-true, le-leb, cond-true, false_from_ne_true, both_ways}
+use Rattle.std.proofs.lemmas.Bool.{and_parts, leb-true, le-leb, cond-true, false_from_ne_true, both_ways}
 use Rattle.std.proofs.lemmas.Bool.Decides.{nat_tests}
 use Rattle.std.proofs.lemmas.Option.{cond_some}
 use Rattle.std.proofs.lemmas.List.{length-take-le, take-append-drop}
@@ -12,14 +12,14 @@ use Rattle.std.proofs.lemmas.List.Elements.{All-weaker}
 use Rattle.std.proofs.lemmas.List.Sums.{AllPass-from_list_all, list_all-from_AllPass}
 use Rattle.std.proofs.lemmas.Fmt.{decimal_nonempty}
 use Rattle.std.proofs.lemmas.Str.{chars_past_char, encode_ascii}
-use Rattle.mm_lex.specs.LexTokens.{starts_name, IsNameLike, IsName}
-use Rattle.mm_lex.specs.LexText.{StopsAt}
-use Rattle.mm_lex.specs.LexReading.{number_in}
-use Rattle.mm_lex.specs.LexNames.{is_name}
-use Rattle.mm_lex.proofs.LexNumberLemmas.{number_in-writes, number_in-decimal, decimal-digits}
-use Rattle.mm_lex.proofs.LexNameLemmas.{starts_name-ascii}
-use Rattle.mm_lex.proofs.LexRunLemmas.{both, prefix_len-append, take-prefix, drop-prefix}
-use Rattle.mm_lex.proofs.LexNameTests.{is_name-sound, is_name-complete}
+use Rattle.mm_names.specs.Names.{starts_name, IsNameLike, IsName}
+use Rattle.mm_names.specs.Prefixes.{StopsAt}
+use Rattle.mm_names.specs.Decimals.{number_in}
+use Rattle.mm_names.specs.Runs.{is_name}
+use Rattle.mm_names.proofs.Numerals.{number_in-writes, number_in-decimal, decimal-digits}
+use Rattle.mm_names.proofs.NameLemmas.{starts_name-ascii}
+use Rattle.mm_names.proofs.Prefixes.{prefix_len-append, take-prefix, drop-prefix}
+use Rattle.mm_names.proofs.RunLemmas.{is_name-sound, is_name-complete}
 use Rattle.mm_symbols.specs.SymbolText.{seg_text, path_text}
 use Rattle.mm_symbols.specs.SymbolForms.{IsPath}
 use Rattle.mm_symbols.specs.Reading.{bytes_in, segment_in, name_in, segments_in, is_path, path_in}
@@ -107,7 +107,7 @@ not_e d digit = grind (arith, nat_tests)
 
 digits_begun : (ds rest : List ℕ) → 0 < length ds → list_all is_ascii_digit ds ≡ true → IsBegun (ds ++ rest)
 digits_begun [] rest some digits = absurd (omega arith)
-digits_begun (d ∷ ds) rest some digits = not_e d (both (is_ascii_digit d) (list_all is_ascii_digit ds) digits).0
+digits_begun (d ∷ ds) rest some digits = not_e d (and_parts (is_ascii_digit d) (list_all is_ascii_digit ds) digits).0
 
 -- a length begins with a digit, and so not with E
 seg_begun : (name : List ℕ) → IsSegment name → IsBegun (seg_text name)

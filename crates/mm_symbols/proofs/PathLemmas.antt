@@ -6,8 +6,8 @@ use Rattle.std.specs.Str.{chars}
 use Rattle.std.proofs.lemmas.Bool.{cond-true}
 use Rattle.std.proofs.lemmas.List.Elements.{All-head, All-tail}
 use Rattle.std.proofs.lemmas.List.Splits.{slice_split_none, slice_split_at}
-use Rattle.mm_lex.specs.LexTokens.{IsName}
-use Rattle.mm_lex.proofs.LexNameBytes.{IsName-without}
+use Rattle.mm_names.specs.Names.{IsName}
+use Rattle.mm_names.proofs.NameLemmas.{IsName-without}
 use Rattle.mm_symbols.specs.SymbolForms.{IsPath}
 use Rattle.mm_symbols.specs.ItemForms.{has_some, names_in, IsPathText}
 

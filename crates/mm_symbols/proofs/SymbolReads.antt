@@ -2,14 +2,13 @@
 use Rattle.std.proofs.Common.{◌≡◌, ℕ, List, [], ◌∷◌, ◌++◌, map, true, ◌&&◌, eqb, codes, Option, Some, None, refl, sym, ◌∙◌, ap, subst, append_assoc, append-nil, arith, inl, inr, ◌⊎◌}
 use Rattle.std.specs.Prelude.{All}
 use Rattle.std.specs.Str.{bytes_eq}
-use Rattle.std.proofs.lemmas.Bool.{or_cases, or_right}
+use Rattle.std.proofs.lemmas.Bool.{and_parts, or_cases, or_right}
 use Rattle.std.proofs.lemmas.Option.{none-some}
 use Rattle.std.proofs.lemmas.List.Elements.{All-nil, All-cons}
 use Rattle.std.proofs.lemmas.Slice.Eq.{bytes_eq-Decides}
-use Rattle.mm_lex.specs.LexTokens.{IsName}
-use Rattle.mm_lex.specs.LexNames.{is_name}
-use Rattle.mm_lex.proofs.LexRunLemmas.{both}
-use Rattle.mm_lex.proofs.LexNameTests.{is_name-sound, is_name-complete}
+use Rattle.mm_names.specs.Names.{IsName}
+use Rattle.mm_names.specs.Runs.{is_name}
+use Rattle.mm_names.proofs.RunLemmas.{is_name-sound, is_name-complete}
 use Rattle.mm_symbols.specs.declared.form.SymType.{SymType}
 use Rattle.mm_symbols.specs.declared.form.SymItem.{SymItem}
 use Rattle.mm_symbols.specs.declared.form.SymItem.TheVariants as items
@@ -31,8 +30,8 @@ is_drop_trait-sound (name ∷ next ∷ names) h = cc
 
 names_method-sound : (tr : List (List ℕ)) (name : List ℕ) → names_method tr name ≡ true → IsNamed tr name
 names_method-sound tr name h = elim (or_cases (is_drop_trait tr && bytes_eq name (codes "drop")) (is_path tr && is_name name) h) [
-  | inl drop ↦ (let parts = both (is_drop_trait tr) (bytes_eq name (codes "drop")) drop in inr (is_drop_trait-sound tr parts.0, (bytes_eq-Decides name (codes "drop")).0 parts.1))
-  | inr named ↦ (let parts = both (is_path tr) (is_name name) named in inl (is_path-sound tr parts.0, is_name-sound name parts.1))
+  | inl drop ↦ (let parts = and_parts (is_drop_trait tr) (bytes_eq name (codes "drop")) drop in inr (is_drop_trait-sound tr parts.0, (bytes_eq-Decides name (codes "drop")).0 parts.1))
+  | inr named ↦ (let parts = and_parts (is_path tr) (is_name name) named in inl (is_path-sound tr parts.0, is_name-sound name parts.1))
 ]
 
 drop_segment : IsSegment (codes "Drop")

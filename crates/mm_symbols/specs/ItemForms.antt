@@ -1,5 +1,5 @@
 -- The form of an item of a program, and the programs in which symbols tell items apart.
-use Rattle.std.specs.Prelude.{◌≡◌, ℕ, ◌+◌, ◌<◌, max, Bool, true, false, eqb, List, [], ◌∷◌, ◌++◌, length, map, filter, flat_map, All, slice_get, codes, None}
+use Rattle.std.specs.Prelude.{◌≡◌, ℕ, ◌+◌, ◌<◌, max, Bool, true, false, eqb, List, [], ◌∷◌, ◌++◌, length, map, filter, flat_map, All, codes, None}
 use Rattle.std.specs.List.{slice_split, join_by}
 use Rattle.mm_terms.specs.declared.ids.DefId.{DefId}
 use Rattle.mm_terms.specs.declared.ty_head.TyHead.{TyHead}

@@ -3,10 +3,10 @@ use Rattle.std.specs.Prelude.{◌≡◌, ℕ, zero, suc, eqb, leb, Bool, false, 
 use Rattle.std.specs.List.{prefix_len, list_all}
 use Rattle.std.specs.Char.{is_ascii_digit}
 use Rattle.std.specs.Str.{bytes_eq}
-use Rattle.mm_lex.specs.declared.text_error.TextError.{TextError}
-use Rattle.mm_lex.specs.declared.text_error.TextError.TheVariants.{BadText, NoMemory}
-use Rattle.mm_lex.specs.LexReading.{number_in}
-use Rattle.mm_lex.specs.LexNames.{is_name}
+use Rattle.mm_symbols.specs.declared.parse_error.ParseError.{ParseError}
+use Rattle.mm_symbols.specs.declared.parse_error.ParseError.TheVariants.{Invalid, NoMemory}
+use Rattle.mm_names.specs.Decimals.{number_in}
+use Rattle.mm_names.specs.Runs.{is_name}
 use Rattle.mm_symbols.specs.declared.form.SymHead.{SymHead}
 use Rattle.mm_symbols.specs.declared.form.SymHead.TheVariants.{U64, Bool as Truth, Tuple, Ref, Boxed, FnPtr, FnItem, Closure, Dyn, Adt}
 use Rattle.mm_symbols.specs.declared.form.SymType.{SymType}
@@ -17,9 +17,9 @@ use Rattle.mm_symbols.specs.declared.form.SymbolForm.{SymbolForm}
 use Rattle.mm_symbols.specs.SymTree.{sym_node}
 
 -- what a function of the reader returned, seen by the view, is what is read; out of memory is free
-abbrev pub Gives : {X Y : Type 0} → (X → Y) → Result X TextError → Option Y → Type 0
+abbrev pub Gives : {X Y : Type 0} → (X → Y) → Result X ParseError → Option Y → Type 0
 Gives view (Ok x) read = read ≡ Some (view x)
-Gives view (Err BadText) read = read ≡ None
+Gives view (Err Invalid) read = read ≡ None
 Gives view (Err NoMemory) read = Unit {0}
 
 -- what is read, and the bytes behind it, where there is such a thing

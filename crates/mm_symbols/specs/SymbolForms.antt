@@ -1,6 +1,6 @@
 -- Which forms are those of symbols, and which bytes are symbols.
 use Rattle.std.specs.Prelude.{◌≡◌, ◌≢◌, ℕ, zero, suc, ⊤, List, [], ◌∷◌, length, All, codes, Option, None, Some, ◌⊎◌}
-use Rattle.mm_lex.specs.LexTokens.{IsName}
+use Rattle.mm_names.specs.Names.{IsName}
 use Rattle.mm_symbols.specs.declared.form.SymHead.{SymHead}
 use Rattle.mm_symbols.specs.declared.form.SymHead.TheVariants.{U64, Bool, Tuple, Ref, Boxed, FnPtr, FnItem, Closure, Dyn, Adt}
 use Rattle.mm_symbols.specs.declared.form.SymType.{SymType}

@@ -1,6 +1,5 @@
 -- The text of a type: the one form in which it is written.
-use Rattle.std.specs.Prelude.{ℕ, ◌-◌, List, [], ◌∷◌, ◌++◌, Bool, false, cond, nat_eq, length, take, drop, flat_map, codes, decimal, slice_get}
-use Rattle.mm_terms.specs.declared.ids.DefId.{DefId}
+use Rattle.std.specs.Prelude.{ℕ, ◌-◌, List, [], ◌∷◌, ◌++◌, Bool, false, cond, nat_eq, length, take, drop, flat_map, codes, decimal}
 use Rattle.mm_terms.specs.declared.ty_head.TyHead.{TyHead}
 use Rattle.mm_terms.specs.declared.ty_head.TyHead.TheVariants.{Param, U64, Bool as Bools, Tuple, Ref, Boxed, FnPtr, FnItem, Closure, Dyn, Adt}
 use Rattle.mm_terms.specs.declared.tree.Tree.{Tree}

@@ -1,12 +1,12 @@
-ghost use Rattle.std.specs.Prelude.{◌≡◌, ◌&&◌, IfOk, codes};
+ghost use Rattle.std.specs.Prelude.{◌≡◌, ◌&&◌, codes};
 ghost use Rattle.std.specs.Str.{bytes_eq};
 ghost use Rattle.mm_symbols.specs.Reading.{Gives, is_drop_trait, names_method, within_in, method_in, item_in};
 
 use crate::form::{Segs, SymItem, SymMethod};
+use crate::parse_error::ParseError;
 use crate::pieces::{is_path, path, segments, tests_name, text};
 use crate::types::{args, named, within};
-use mm_lex::TextError;
-use mm_terms::{NoMemory, Text};
+use mm_terms::Text;
 use std::alloc::Global;
 
 /// Whether the trait is `Drop` and the method `drop`.
@@ -20,21 +20,15 @@ fn is_drop(tr: &[Text], name: &[u8]) -> bool
 }
 
 /// Whether the trait and the method have names, or are `Drop` and `drop`.
-fn names_method(alloc: Global, tr: &Segs, name: &[u8]) -> Result<bool, NoMemory>
-    ensures { IfOk result (λ is. is ≡ names_method tr.now name.now) }
+fn names_method(tr: &Segs, name: &[u8]) -> bool
+    ensures { result ≡ names_method tr.now name.now }
 {
-    if is_drop(tr.as_slice(), name) {
-        return Ok(true);
-    }
-    if !is_path(alloc, tr)? {
-        return Ok(false);
-    }
-    tests_name(alloc, name)
+    is_drop(tr.as_slice(), name) || is_path(tr) && tests_name(name)
 }
 
 /// A method of an impl.
 #[tactic(auto, unfolding(crate::specs::Reading::method_in))]
-fn method(alloc: Global, levels: u32, bytes: &[u8]) -> Result<(SymMethod, &[u8]), TextError>
+fn method(alloc: Global, levels: u32, bytes: &[u8]) -> Result<(SymMethod, &[u8]), ParseError>
     ensures { Gives (λ x. (x.0, x.1.now)) result (method_in (within_in levels) bytes.now) }
 {
     let (target, rest) = within(alloc, levels, bytes)?;
@@ -42,8 +36,8 @@ fn method(alloc: Global, levels: u32, bytes: &[u8]) -> Result<(SymMethod, &[u8])
     let (tr_args, rest) = args(alloc, levels, rest)?;
     let (name, rest) = text(alloc, rest)?;
     let (own, rest) = args(alloc, levels, rest)?;
-    if !names_method(alloc, &tr, name.as_slice())? {
-        return Err(TextError::BadText);
+    if !names_method(&tr, name.as_slice()) {
+        return Err(ParseError::Invalid);
     }
     let method = SymMethod {
         target,
@@ -57,11 +51,11 @@ fn method(alloc: Global, levels: u32, bytes: &[u8]) -> Result<(SymMethod, &[u8])
 
 /// An item, whose types nest no deeper than so many levels.
 #[tactic(auto, unfolding(crate::specs::Reading::item_in))]
-pub fn item(alloc: Global, levels: u32, bytes: &[u8]) -> Result<(SymItem, &[u8]), TextError>
+pub fn item(alloc: Global, levels: u32, bytes: &[u8]) -> Result<(SymItem, &[u8]), ParseError>
     ensures { Gives (λ x. (x.0, x.1.now)) result (item_in (within_in levels) bytes.now) }
 {
     let Some((letter, rest)) = bytes.split_first() else {
-        return Err(TextError::BadText);
+        return Err(ParseError::Invalid);
     };
     match *letter {
         b'F' => {
@@ -88,6 +82,6 @@ pub fn item(alloc: Global, levels: u32, bytes: &[u8]) -> Result<(SymItem, &[u8])
             let (names, rest) = path(alloc, rest)?;
             Ok((SymItem::Static(names), rest))
         }
-        _ => Err(TextError::BadText),
+        _ => Err(ParseError::Invalid),
     }
 }

@@ -7,6 +7,7 @@ mod items;
 pub mod laws;
 mod listing;
 mod of_items;
+mod parse_error;
 mod pieces;
 mod reading;
 mod type_texts;

@@ -4,8 +4,8 @@ ghost use Rattle.mm_symbols.specs.SymbolForms.{IsSymbol, IsSymbolOf};
 
 use crate::form::SymbolForm;
 use crate::items::item;
+use crate::parse_error::ParseError;
 use crate::pieces::{name, past};
-use mm_lex::TextError;
 use mm_terms::{NoMemory, Text};
 use std::alloc::Global;
 
@@ -14,7 +14,7 @@ const NESTED_MOST: u32 = 4_096;
 
 /// The compiling crate, where one is reported, from all of the bytes behind the item.
 #[tactic(auto, unfolding(crate::specs::Reading::krate_in))]
-fn krate(alloc: Global, bytes: &[u8]) -> Result<Option<Text>, TextError>
+fn krate(alloc: Global, bytes: &[u8]) -> Result<Option<Text>, ParseError>
     ensures { Gives (λ x. x) result (krate_in bytes.now) }
 {
     if bytes.is_empty() {
@@ -23,14 +23,14 @@ fn krate(alloc: Global, bytes: &[u8]) -> Result<Option<Text>, TextError>
     let rest = past(b'X', bytes)?;
     let (name, rest) = name(alloc, rest)?;
     if !rest.is_empty() {
-        return Err(TextError::BadText);
+        return Err(ParseError::Invalid);
     }
     Ok(Some(name))
 }
 
 /// The form of a symbol from all of its bytes.
 #[tactic(auto, unfolding(crate::specs::Reading::symbol_in))]
-fn form(alloc: Global, bytes: &[u8]) -> Result<SymbolForm, TextError>
+fn form(alloc: Global, bytes: &[u8]) -> Result<SymbolForm, ParseError>
     ensures { Gives (λ x. x) result (symbol_in 4096 bytes.now) }
 {
     let rest = past(b'_', bytes)?;
@@ -46,7 +46,7 @@ pub fn read_symbol(alloc: Global, bytes: &[u8]) -> Result<Option<SymbolForm>, No
 {
     match form(alloc, bytes) {
         Ok(form) => Ok(Some(form)),
-        Err(TextError::BadText) => Ok(None),
-        Err(TextError::NoMemory) => Err(NoMemory),
+        Err(ParseError::Invalid) => Ok(None),
+        Err(ParseError::NoMemory) => Err(NoMemory),
     }
 }

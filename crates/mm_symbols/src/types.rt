@@ -2,18 +2,18 @@ ghost use Rattle.std.specs.Prelude.{length};
 ghost use Rattle.mm_symbols.specs.Reading.{Gives, each_in, until_end, args_in, named_in, tuple_in, single_in, signature_in, defined_behind, shape_in, node_in, within_in};
 
 use crate::form::{Segs, SymHead, SymType, SymTypes};
+use crate::parse_error::ParseError;
 use crate::pieces::{past, path, starts};
-use mm_lex::TextError;
 use sqlite_items::Items;
 use std::alloc::Global;
 
 /// A type that nests no deeper than so many levels.
 #[cycle(types)]
-pub fn within(alloc: Global, levels: u32, bytes: &[u8]) -> Result<(SymType, &[u8]), TextError>
+pub fn within(alloc: Global, levels: u32, bytes: &[u8]) -> Result<(SymType, &[u8]), ParseError>
     ensures { Gives (λ x. (x.0, x.1.now)) result (within_in levels bytes.now) }
 {
     if levels == 0 {
-        return Err(TextError::BadText);
+        return Err(ParseError::Invalid);
     }
     node(alloc, levels - 1, bytes)
 }
@@ -21,7 +21,7 @@ pub fn within(alloc: Global, levels: u32, bytes: &[u8]) -> Result<(SymType, &[u8
 /// A type whose parts nest no deeper than so many levels.
 #[cycle(types)]
 #[tactic(auto, unfolding(crate::specs::Reading::node_in))]
-fn node(alloc: Global, levels: u32, bytes: &[u8]) -> Result<(SymType, &[u8]), TextError>
+fn node(alloc: Global, levels: u32, bytes: &[u8]) -> Result<(SymType, &[u8]), ParseError>
     ensures { Gives (λ x. (x.0, x.1.now)) result (node_in (within_in levels) bytes.now) }
 {
     let ((head, children), rest) = shape(alloc, levels, bytes)?;
@@ -35,11 +35,11 @@ fn shape(
     alloc: Global,
     levels: u32,
     bytes: &[u8],
-) -> Result<((SymHead, SymTypes), &[u8]), TextError>
+) -> Result<((SymHead, SymTypes), &[u8]), ParseError>
     ensures { Gives (λ x. (x.0, x.1.now)) result (shape_in (within_in levels) bytes.now) }
 {
     let Some((letter, rest)) = bytes.split_first() else {
-        return Err(TextError::BadText);
+        return Err(ParseError::Invalid);
     };
     match *letter {
         b'y' => Ok(((SymHead::U64, Items::new(alloc)), rest)),
@@ -61,7 +61,7 @@ fn defined(
     levels: u32,
     letter: u8,
     bytes: &[u8],
-) -> Result<((SymHead, SymTypes), &[u8]), TextError>
+) -> Result<((SymHead, SymTypes), &[u8]), ParseError>
     ensures { Gives (λ x. (x.0, x.1.now)) result (defined_behind (within_in levels) letter bytes.now) }
 {
     match letter {
@@ -81,7 +81,7 @@ fn defined(
             let ((names, args), rest) = named(alloc, levels, bytes)?;
             Ok(((SymHead::Adt(names), args), rest))
         }
-        _ => Err(TextError::BadText),
+        _ => Err(ParseError::Invalid),
     }
 }
 
@@ -92,12 +92,12 @@ fn tuple(
     alloc: Global,
     levels: u32,
     bytes: &[u8],
-) -> Result<((SymHead, SymTypes), &[u8]), TextError>
+) -> Result<((SymHead, SymTypes), &[u8]), ParseError>
     ensures { Gives (λ x. (x.0, x.1.now)) result (tuple_in (within_in levels) bytes.now) }
 {
     let (parts, rest) = types(alloc, levels, bytes)?;
     if parts.len() == 1 {
-        return Err(TextError::BadText);
+        return Err(ParseError::Invalid);
     }
     Ok(((SymHead::Tuple, parts), rest))
 }
@@ -110,7 +110,7 @@ fn single(
     head: SymHead,
     levels: u32,
     bytes: &[u8],
-) -> Result<((SymHead, SymTypes), &[u8]), TextError>
+) -> Result<((SymHead, SymTypes), &[u8]), ParseError>
     ensures { Gives (λ x. (x.0, x.1.now)) result (single_in head (within_in levels) bytes.now) }
 {
     let (child, rest) = within(alloc, levels, bytes)?;
@@ -126,7 +126,7 @@ fn signature(
     alloc: Global,
     levels: u32,
     bytes: &[u8],
-) -> Result<((SymHead, SymTypes), &[u8]), TextError>
+) -> Result<((SymHead, SymTypes), &[u8]), ParseError>
     ensures { Gives (λ x. (x.0, x.1.now)) result (signature_in (within_in levels) bytes.now) }
 {
     let (mut children, rest) = types(alloc, levels, bytes)?;
@@ -142,7 +142,7 @@ pub fn named(
     alloc: Global,
     levels: u32,
     bytes: &[u8],
-) -> Result<((Segs, SymTypes), &[u8]), TextError>
+) -> Result<((Segs, SymTypes), &[u8]), ParseError>
     ensures { Gives (λ x. (x.0, x.1.now)) result (named_in (within_in levels) bytes.now) }
 {
     let (names, rest) = path(alloc, bytes)?;
@@ -153,7 +153,7 @@ pub fn named(
 /// The types between an `I` and an `E`.
 #[cycle(types)]
 #[tactic(auto, unfolding(crate::specs::Reading::args_in))]
-pub fn args(alloc: Global, levels: u32, bytes: &[u8]) -> Result<(SymTypes, &[u8]), TextError>
+pub fn args(alloc: Global, levels: u32, bytes: &[u8]) -> Result<(SymTypes, &[u8]), ParseError>
     ensures { Gives (λ x. (x.0, x.1.now)) result (args_in (within_in levels) bytes.now) }
 {
     let rest = past(b'I', bytes)?;
@@ -162,7 +162,7 @@ pub fn args(alloc: Global, levels: u32, bytes: &[u8]) -> Result<(SymTypes, &[u8]
 
 /// Types, and the `E` behind them.
 #[cycle(types)]
-fn types(alloc: Global, levels: u32, bytes: &[u8]) -> Result<(SymTypes, &[u8]), TextError>
+fn types(alloc: Global, levels: u32, bytes: &[u8]) -> Result<(SymTypes, &[u8]), ParseError>
     ensures { Gives (λ x. (x.0, x.1.now)) result (until_end (within_in levels) bytes.now) }
 {
     let (types, rest) = each_type(alloc, levels, bytes)?;
@@ -172,7 +172,7 @@ fn types(alloc: Global, levels: u32, bytes: &[u8]) -> Result<(SymTypes, &[u8]), 
 
 /// Types up to the next `E`.
 #[cycle(types)]
-fn each_type(alloc: Global, levels: u32, bytes: &[u8]) -> Result<(SymTypes, &[u8]), TextError>
+fn each_type(alloc: Global, levels: u32, bytes: &[u8]) -> Result<(SymTypes, &[u8]), ParseError>
     ensures { Gives (λ x. (x.0, x.1.now)) result (each_in (within_in levels) (length bytes.now) bytes.now) }
 {
     let mut types = Items::new(alloc);

@@ -9,7 +9,7 @@ use Rattle.std.specs.Str.Parse.{digits_value, ParsesUnsigned}
 use Rattle.std.proofs.lemmas.Fmt.{decimal_digit, first_decimal, decimal_nonempty, digits_decimal, parse-decimal, decimal-digits_value}
 use Rattle.std.proofs.lemmas.Str.Parse.{digit_at, parse_plain}
 use Rattle.mm_tool.specs.WordReading.{IsNumber, IsCount}
-use Rattle.mm_lex.proofs.LexNumberLemmas.{digits_model}
+use Rattle.mm_names.proofs.Numerals.{digits_model}
 
 -- a number from 1 begins with a digit but zero
 pub number_begins : (most n : ℕ) (digits : List ℕ) → most < 2 ^ 32 → IsNumber most digits n → IsInRange 49 57 (get_or digits 0 0)

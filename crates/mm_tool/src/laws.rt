@@ -7,7 +7,7 @@ ghost use Rattle.mm_program.specs.Roots.{roots_of};
 ghost use Rattle.mm_program.specs.Uses.{uses_of};
 ghost use Rattle.mm_program.specs.WellFormed.{IsWellFormed};
 ghost use Rattle.mm_program.specs.declared.program.Program.{Program};
-ghost use Rattle.mm_lex.specs.LexTokens.{IsName};
+ghost use Rattle.mm_names.specs.Names.{IsName};
 ghost use Rattle.mm_machines.specs.Demand.{observed_demand};
 ghost use Rattle.mm_symbols.specs.ItemForms.{HasNames, IsItemIn};
 ghost use Rattle.mm_tool.specs.Observed.{obs_text, obs_status};

@@ -1,0 +1,5 @@
+pub mod NameLemmas
+pub mod Numerals
+pub mod Prefixes
+pub mod RunLemmas
+pub mod WordSpellings

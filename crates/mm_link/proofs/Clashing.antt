@@ -1,5 +1,5 @@
 -- The clashes that an index tells of are clashes, and among them is one that is no greater than any clash.
-use Rattle.std.specs.Prelude.{◌≡◌, ◌≢◌, ◌⊎◌, ℕ, zero, suc, ◌+◌, ◌<◌, ◌≤◌, ◌==◌, ◌&&◌, Bool, true, false, cond, List, [], ◌∷◌, ◌++◌, All, Contains, flat_map, map, get_or, Option, None, Some}
+use Rattle.std.specs.Prelude.{◌≡◌, ◌≢◌, ◌⊎◌, ℕ, ◌+◌, ◌<◌, ◌≤◌, ◌==◌, ◌&&◌, Bool, true, false, cond, List, [], ◌∷◌, All, Contains, flat_map, map, get_or, Option, None, Some}
 use Rattle.std.specs.Cmp.{nat_cmp_is}
 use Rattle.std.specs.List.{enumerate_from, find}
 use Rattle.std.specs.Ordering.{is_lt, nat_cmp, ordering_then}
@@ -44,17 +44,17 @@ not_before t u how lt =
     omega (arith, under, both.1))
     how
 
-place_bounds : (n m : ℕ) (ds : List ObjDef) (c : Placed) → Contains (map (placed_at n) (enumerate_from m ds)) c → (c.unit ≡ n) × (m ≤ c.number)
-place_bounds n m [] c has = absurd (Contains-nil c has)
-place_bounds n m (d ∷ ds) c has =
+position_bounds : (n m : ℕ) (ds : List ObjDef) (c : Placed) → Contains (map (placed_at n) (enumerate_from m ds)) c → (c.unit ≡ n) × (m ≤ c.number)
+position_bounds n m [] c has = absurd (Contains-nil c has)
+position_bounds n m (d ∷ ds) c has =
     ⊎_elim (λ e. (sym (ap (λ one. one.unit) e), let k : m ≡ c.number = ap (λ one. one.number) e in omega (arith, k)))
-    (λ rest. let bounds = place_bounds n (m + 1) ds c rest in (bounds.0, omega (arith, bounds.1)))
+    (λ rest. let bounds = position_bounds n (m + 1) ds c rest in (bounds.0, omega (arith, bounds.1)))
     (Contains-cons_cases (placed_at n (m, d)) (map (placed_at n) (enumerate_from (m + 1) ds)) c has)
 
 unit_bounds : (n : ℕ) (us : List ObjUnit) (c : Placed) → Contains (flat_map placed_in (enumerate_from n us)) c → n ≤ c.unit
 unit_bounds n [] c has = absurd (Contains-nil c has)
 unit_bounds n (u ∷ us) c has =
-    ⊎_elim (λ l. let e = (place_bounds n 0 u.defs c l).0 in omega (arith, e))
+    ⊎_elim (λ l. let e = (position_bounds n 0 u.defs c l).0 in omega (arith, e))
     (λ r. let le = unit_bounds (n + 1) us c r in omega (arith, le))
     (Contains-append_cases (placed_in (n, u)) (flat_map placed_in (enumerate_from (n + 1) us)) c has)
 
@@ -73,7 +73,7 @@ module _ (p : Placed → Bool) where
           subst (λ one. target_cmp (target_of c) (target_of one) ≢ Less) is
           (⊎_elim
           (λ q. subst (λ one. target_cmp (target_of one) (target_of (placed_at n (m, d))) ≢ Less) q (not_less_itself target_cmp target_cmp_total (target_of (placed_at n (m, d)))))
-          (λ behind. let bounds = place_bounds n (m + 1) ds c behind in not_before (target_of c) (target_of (placed_at n (m, d))) (inr (bounds.0, omega (arith, bounds.1))))
+          (λ behind. let bounds = position_bounds n (m + 1) ds c behind in not_before (target_of c) (target_of (placed_at n (m, d))) (inr (bounds.0, omega (arith, bounds.1))))
           (Contains-cons_cases (placed_at n (m, d)) rest c has))
       at again false s g = ⊎_elim (λ q. absurd (false≢true (sym s ∙ ap p q ∙ t))) (λ behind. again g behind t) (Contains-cons_cases (placed_at n (m, d)) rest c has)
 
@@ -97,7 +97,7 @@ module _ (p : Placed → Bool) where
           ⊎_elim (λ l. first_of_unit n 0 u.defs e c found l t)
           (λ r.
           let le = unit_bounds (n + 1) us c r in
-          let at_unit = (place_bounds n 0 u.defs e (find-Some p here e found).0).0 in
+          let at_unit = (position_bounds n 0 u.defs e (find-Some p here e found).0).0 in
           not_before (target_of c) (target_of e) (inl (omega (arith, le, at_unit))))
           (Contains-append_cases here rest c has)
 
@@ -236,10 +236,10 @@ module _ (us : List ObjUnit) where
   pub least_reported : (x : Clash) → Contains (flat_map (reported us) (placed us)) x → All (λ z. clash_cmp z x ≢ Less) (flat_map (reported us) (placed us)) → (y : Clash) → IsClash us y → clash_cmp y x ≢ Less
   least_reported x has all y c lt =
       let near = not_above_all y c in
-      near.not_above (less_through clash_cmp clash_cmp_total y x near.reported_one lt (at_place near.among all))
+      near.not_above (less_through clash_cmp clash_cmp_total y x near.reported_one lt (at_position near.among all))
     where
-      at_place : {z : Clash} → Contains (flat_map (reported us) (placed us)) z → All (λ z. clash_cmp z x ≢ Less) (flat_map (reported us) (placed us)) → clash_cmp z x ≢ Less
-      at_place {z} in_all each = subst (λ w. clash_cmp w x ≢ Less) in_all.2 (each in_all.0 z in_all.1)
+      at_position : {z : Clash} → Contains (flat_map (reported us) (placed us)) z → All (λ z. clash_cmp z x ≢ Less) (flat_map (reported us) (placed us)) → clash_cmp z x ≢ Less
+      at_position {z} in_all each = subst (λ w. clash_cmp w x ≢ Less) in_all.2 (each in_all.0 z in_all.1)
 
 -- the least of a list of what is reported
 pub least_of_reported : (us : List ObjUnit) (xs : List Clash) (n : ℕ) (x : Clash) → xs ≡ flat_map (reported us) (placed us) → IsLeast xs (Some n) → x ≡ get_or xs n x → IsClash us x × ((y : Clash) → IsClash us y → clash_cmp y x ≢ Less)

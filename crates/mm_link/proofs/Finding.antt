@@ -41,7 +41,7 @@ own_behind unit n s (u ∷ us) lt =
     ∙ ap (λ o. option_or o (find (is_own unit s) (flat_map placed_in (enumerate_from (n + 1) us)))) (own_elsewhere unit n s (enumerate_from 0 u.defs) (λ e. omega (arith, e, lt)))
     ∙ own_behind unit (n + 1) s us (omega arith)
 
--- where a symbol leads by names that may not be there
+-- the lookup of a symbol by names that may not be there
 abbrev given : Option (List ℕ → Option Target) → List ℕ → Option Target
 given None s = None
 given (Some f) s = f s
@@ -77,10 +77,7 @@ module _ {S : Type 0} where
       ∙ ap (λ o. given o s) (sym (slice_get-map look_up own unit) ∙ ap (λ l. slice_get l unit) is)
       ∙ own_at 0 us unit s ∙ ap (λ n. option_map target_of (find (is_own n s) (placed us))) e
 
-  -- the index of the units finds what a reference names
-  pub index_finds : (shared : HashMap (Vec ℕ) Target S) (own : List (HashMap (Vec ℕ) Target S)) (us : List ObjUnit) → ((s : List ℕ) → look_up shared s ≡ shared_in us s) → map look_up own ≡ own_names 0 us → (unit : ℕ) (s : List ℕ) → option_or (look_up_if (slice_get own unit) s) (look_up shared s) ≡ find_in us unit s
-  unfolding resolve
-  index_finds shared own us shared_is own_is unit s =
-      ap (λ o. option_or o (look_up shared s)) (own_found own us own_is unit s)
-      ∙ ap (option_or (own_in us unit s)) (shared_is s)
-      ∙ sym (map_or target_of (find (is_own unit s) (placed us)) (find (is_shared s) (placed us)))
+-- the unit's own definition, else the shared one, is what a reference names
+pub found : (us : List ObjUnit) (unit : ℕ) (s : List ℕ) → option_or (own_in us unit s) (shared_in us s) ≡ find_in us unit s
+unfolding resolve
+found us unit s = sym (map_or target_of (find (is_own unit s) (placed us)) (find (is_shared s) (placed us)))

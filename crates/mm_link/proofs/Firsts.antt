@@ -39,7 +39,7 @@ none_is (Some x) false e = refl
 none_is None false e = absurd (false≢true e)
 none_is (Some x) true e = absurd (false≢true (sym e))
 
--- the same of parts with their places
+-- the same of parts with their positions
 module _ {A X : Type 0} (p : X → Bool) (f : ℕ × A → List X) (xs : List A) (i : ℕ) (x : A) (all : Option X) where
   separated_at : i < length xs → x ≡ get_or xs i x → find p (flat_map f (enumerate_from i (drop i xs))) ≡ option_or (find p (f (i, x))) (find p (flat_map f (enumerate_from (i + 1) (drop (i + 1) xs))))
   separated_at lt at =

@@ -19,7 +19,7 @@ module _ {X S : Type 0} (m n : HashMap (Vec ℕ) X S) where
   unfolding KeepsOthers
   others eq test h = h
 
-  -- it leads there from these bytes, and from others as before
+  -- the lookup of these bytes gives the new value, and of others what it gave
   pub updated : (bs : List ℕ) (w : Option X) → UpdatesBy (λ x y. bytes_eq x.items y.items) (λ k. bytes_eq bs k.items) m n w → (cs : List ℕ) → look_up n cs ≡ cond (bytes_eq bs cs) w (look_up m cs)
   updated bs w h cs =
       ⊎_elim
@@ -31,7 +31,7 @@ none_if : {X : Type 0} (o : Option X) → is_some o ≡ false → o ≡ None
 none_if None missing = refl
 none_if (Some x) missing = absurd (cc missing)
 
--- where nothing was led to from these bytes, the change is one more to be led to
+-- where these bytes were not there, the change adds them alone
 pub noted : {X : Type 0} (f : List ℕ → Option X) (bs : List ℕ) (x : X) → is_some (f bs) ≡ false → (s : List ℕ) → cond (bytes_eq bs s) (Some x) (f s) ≡ option_or (f s) (cond (bytes_eq bs s) (Some x) None)
 noted {X} f bs x missing s = at (bytes_eq bs s) refl
   where

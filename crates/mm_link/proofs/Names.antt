@@ -1,5 +1,5 @@
 -- Notes of definitions, one after the other.
-use Rattle.std.specs.Prelude.{◌≡◌, ℕ, ◌+◌, Bool, true, false, cond, List, [], ◌∷◌, ◌++◌, ◌<◌, drop, get_or, length, map, flat_map, Option, None, Some}
+use Rattle.std.specs.Prelude.{◌≡◌, ℕ, ◌+◌, Bool, true, false, cond, List, [], ◌∷◌, ◌<◌, drop, get_or, length, map, flat_map, Option, None, Some}
 use Rattle.std.specs.List.{enumerate_from, find}
 use Rattle.std.specs.Option.{option_map, option_or}
 use Rattle.std.proofs.Common.{◌∙◌, refl, sym, ap}

@@ -1,8 +1,8 @@
 ghost use Rattle.std.specs.Prelude.{◌≡◌, ◌≢◌, ◌++◌, ◌<◌, [], All, get_or, length, OnOk, IfOk, MatchOption, false, flat_map, map};
 ghost use Rattle.std.specs.List.{enumerate_from};
 ghost use Rattle.std.specs.Ordering.{is_lt};
-ghost use Rattle.mm_link.specs.Clashes.{IsFirst, IsIndexOf, IsLeast};
-ghost use Rattle.mm_link.specs.Index.{placed_at, open_in, own_in};
+ghost use Rattle.mm_link.specs.Clashes.{IsFirst, IsLeast};
+ghost use Rattle.mm_link.specs.Index.{placed_at, open_in};
 ghost use Rattle.mm_link.specs.Linking.{earlier, reported};
 ghost use Rattle.mm_objects.specs.Linking.{clash_cmp, target_cmp as text_order};
 ghost use Rattle.mm_objects.specs.declared.target.Clash.{Clash};
@@ -23,7 +23,7 @@ fn target_cmp(t: Target, u: Target) -> Ordering
     t.unit.cmp(&u.unit).then(t.def.cmp(&u.def))
 }
 
-/// The order of clashes: by symbol, and then by where both definitions stand.
+/// The order of clashes: by symbol, and then by the positions of both definitions.
 fn order(one: &Clash, other: &Clash) -> Ordering
     ensures { result ≡ clash_cmp one.now other.now }
 {
@@ -57,19 +57,9 @@ fn note_earlier(
     Ok(())
 }
 
-/// The unit's own first definition of a symbol.
-#[tactic(auto, using(crate::proofs::Finding::own_found))]
-fn own_first(_units: &[ObjUnit], index: &Index, unit: u32, symbol: &[u8]) -> Option<Target>
-    requires { IsIndexOf _units.now index.now }
-    ensures { result ≡ own_in _units.now unit symbol.now }
-{
-    index.own_def(unit, symbol)
-}
-
 /// The first definition of the symbol of one, to which every unit may refer, where that is so of this one.
-fn open_first(_units: &[ObjUnit], index: &Index, def: &ObjDef) -> Option<Target>
-    requires { IsIndexOf _units.now index.now }
-    ensures { result ≡ open_in _units.now def.now }
+fn open_first(index: &Index, def: &ObjDef) -> Option<Target>
+    ensures { result ≡ open_in index.now.units def.now }
 {
     if !is_shared(def) {
         return None;
@@ -81,18 +71,16 @@ fn open_first(_units: &[ObjUnit], index: &Index, def: &ObjDef) -> Option<Target>
 fn note_clashes(
     alloc: Global,
     clashes: &mut Vec<Clash>,
-    units: &[ObjUnit],
     index: &Index,
     at: Target,
     def: &ObjDef,
 ) -> Result<(), NoMemory>
-    requires { IsIndexOf units.now index.now }
-    ensures { OnOk result (clashes.new.items ≡ clashes.old.items ++ reported units.now (placed_at at.unit (at.def, def.now))) }
+    ensures { OnOk result (clashes.new.items ≡ clashes.old.items ++ reported index.now.units (placed_at at.unit (at.def, def.now))) }
 {
     let symbol = symbol(def);
-    let own = own_first(units, index, at.unit, symbol);
+    let own = index.own_def(at.unit, symbol);
     note_earlier(alloc, clashes, own, symbol, at)?;
-    let open = open_first(units, index, def);
+    let open = open_first(index, def);
     note_earlier(alloc, clashes, open, symbol, at)
 }
 
@@ -100,43 +88,40 @@ fn note_clashes(
 fn note_unit(
     alloc: Global,
     clashes: &mut Vec<Clash>,
-    units: &[ObjUnit],
     index: &Index,
     number: u32,
     unit: &ObjUnit,
 ) -> Result<(), NoMemory>
-    requires { IsIndexOf units.now index.now }
-    ensures { OnOk result (clashes.new.items ≡ clashes.old.items ++ flat_map (reported units.now) (placed_in (number, unit.now))) }
+    ensures { OnOk result (clashes.new.items ≡ clashes.old.items ++ flat_map (reported index.now.units) (placed_in (number, unit.now))) }
 {
-    for (place, def) in unit.defs.as_slice().iter().enumerate() {
-        let Ok(place) = u32::try_from(place) else {
+    for (position, def) in unit.defs.as_slice().iter().enumerate() {
+        let Ok(position) = u32::try_from(position) else {
             return Err(NoMemory);
         };
         let at = Target {
             unit: number,
-            def: place,
+            def: position,
         };
-        note_clashes(alloc, clashes, units, index, at, def)?;
+        note_clashes(alloc, clashes, index, at, def)?;
     }
     Ok(())
 }
 
 /// The clashes of definitions with earlier ones.
-fn clashes(alloc: Global, units: &[ObjUnit], index: &Index) -> Result<Vec<Clash>, NoMemory>
-    requires { IsIndexOf units.now index.now }
-    ensures { IfOk result (λ found. found.items ≡ flat_map (reported units.now) (placed units.now)) }
+fn clashes(alloc: Global, index: &Index) -> Result<Vec<Clash>, NoMemory>
+    ensures { IfOk result (λ found. found.items ≡ flat_map (reported index.now.units) (placed index.now.units)) }
 {
     let mut found = Vec::new(alloc);
-    for (place, unit) in units.iter().enumerate() {
-        let Ok(number) = u32::try_from(place) else {
+    for (position, unit) in index.units().iter().enumerate() {
+        let Ok(number) = u32::try_from(position) else {
             return Err(NoMemory);
         };
-        note_unit(alloc, &mut found, units, index, number, unit)?;
+        note_unit(alloc, &mut found, index, number, unit)?;
     }
     Ok(found)
 }
 
-/// Of two places, that of the lesser clash; the first where neither is less.
+/// Of two positions, that of the lesser clash; the first where neither is less.
 #[tactic(auto, using(crate::proofs::Least::not_less_self, crate::proofs::Least::keeps_least))]
 fn lesser(clashes: &[Clash], best: usize, other: usize) -> usize
     requires best { best < length clashes.now }
@@ -151,7 +136,7 @@ fn lesser(clashes: &[Clash], best: usize, other: usize) -> usize
     best
 }
 
-/// The place of the least of some clashes.
+/// The position of the least of some clashes.
 fn least(clashes: &[Clash]) -> Option<usize>
     ensures { IsLeast clashes.now result }
 {
@@ -166,17 +151,12 @@ fn least(clashes: &[Clash]) -> Option<usize>
 }
 
 /// The least clash among units, where there is one.
-pub fn least_clash(
-    alloc: Global,
-    units: &[ObjUnit],
-    index: &Index,
-) -> Result<Option<Clash>, NoMemory>
-    requires { IsIndexOf units.now index.now }
-    ensures { IfOk result (λ clash. IsFirst units.now clash) }
+pub fn least_clash(alloc: Global, index: &Index) -> Result<Option<Clash>, NoMemory>
+    ensures { IfOk result (λ clash. IsFirst index.now.units clash) }
 {
-    let mut found = clashes(alloc, units, index)?;
+    let mut found = clashes(alloc, index)?;
     match least(&found) {
         None => Ok(None),
-        Some(place) => Ok(Some(found.remove(place))),
+        Some(position) => Ok(Some(found.remove(position))),
     }
 }

@@ -1,24 +1,47 @@
-ghost use Rattle.std.specs.Prelude.{◌≡◌, ℕ, List, [], ◌∷◌, None, Some, IfOk, OnOk, cond, map, false, slice_get};
+ghost use Rattle.std.specs.Prelude.{◌≡◌, ℕ, List, [], ◌∷◌, None, Some, IfOk, OnOk, cond, map, false};
 ghost use Rattle.std.specs.Option.{option_or};
 ghost use Rattle.std.specs.Str.{bytes_eq};
-ghost use Rattle.mm_link.specs.Index.{found_from, look_up, look_up_if, own_names as names_of};
-ghost use Rattle.mm_objects.specs.Resolution.{shared_in, is_external, link_of, symbol_of};
+ghost use Rattle.mm_link.specs.Index.{found_from, look_up, own_in, own_names as names_of};
+ghost use Rattle.mm_objects.specs.Resolution.{find_in, shared_in, is_external, link_of, symbol_of};
 
-use mm_objects::{Linkage, ObjDef, ObjUnit, Target};
+use mm_objects::{Linkage, ObjDef, ObjUnit, Objects, Target};
 use mm_terms::NoMemory;
 use std::alloc::Global;
 use std::collections::HashMap;
+use std::marker::Model;
 
-/// Where symbols lead.
-pub type Names = HashMap<Vec<u8>, Target>;
+/// Definitions by symbol.
+type Names = HashMap<Vec<u8>, Target>;
 
-/// Where symbols lead, for all units and in each.
+/// Objects with an index of their symbols, which contracts see as the objects: that the index is theirs is an invariant of
+/// the type.
 #[derive(Drop)]
 pub struct Index {
-    /// To the definition to which every unit may refer.
-    pub shared: Names,
-    /// To the definition of the unit itself, unit by unit.
-    pub own: Vec<Names>,
+    objects: Objects,
+    /// For each symbol its first definition to which every unit may refer.
+    shared: Names,
+    /// Unit by unit, for each symbol its first definition in the unit.
+    own: Vec<Names>,
+}
+
+impl Model for Index {
+    ghost use Rattle.mm_objects.specs.contracts.objects.Objects as objects_row;
+    ghost use Rattle.mm_objects.specs.declared.objects.Objects.{Objects};
+    ghost use Rattle.std.specs.Coded.{codes};
+
+    ghost Value = { Objects };
+
+    ghost coded = { Prim.hlevel (codes, objects_row.the_row.coded) };
+
+    ghost use Rattle.std.specs.Prelude.{◌≡◌, ℕ, List, slice_get};
+    ghost use Rattle.mm_link.specs.Index.{look_up, look_up_if, own_in};
+    ghost use Rattle.mm_objects.specs.Resolution.{shared_in};
+
+    ghost view = { λ t. t.objects };
+
+    ghost invariant = { λ t.
+        ((s : List ℕ) → look_up t.shared s ≡ shared_in t.objects.units s)
+        × ((unit : ℕ) (s : List ℕ) → look_up_if (slice_get t.own.items unit) s ≡ own_in t.objects.units unit s) };
 }
 
 /// The symbol of a definition.
@@ -80,20 +103,20 @@ fn note_unit(
 ) -> Result<(), NoMemory>
     ensures { OnOk result ((s : List ℕ) → look_up names.new s ≡ option_or (look_up names.old s) (found_from shared number 0 unit.now.defs s)) }
 {
-    for (place, def) in unit.defs.as_slice().iter().enumerate() {
-        let Ok(place) = u32::try_from(place) else {
+    for (position, def) in unit.defs.as_slice().iter().enumerate() {
+        let Ok(position) = u32::try_from(position) else {
             return Err(NoMemory);
         };
         let target = Target {
             unit: number,
-            def: place,
+            def: position,
         };
         note_def(alloc, names, shared, def, target)?;
     }
     Ok(())
 }
 
-/// Where symbols lead in a unit.
+/// The definitions of a unit, by symbol.
 fn unit_names(alloc: Global, number: u32, unit: &ObjUnit) -> Result<Names, NoMemory>
     ensures { IfOk result (λ names. look_up names ≡ found_from false number 0 unit.now.defs) }
 {
@@ -102,13 +125,13 @@ fn unit_names(alloc: Global, number: u32, unit: &ObjUnit) -> Result<Names, NoMem
     Ok(names)
 }
 
-/// Where symbols lead in every unit.
+/// The definitions to which every unit may refer, by symbol.
 fn shared_names(alloc: Global, units: &[ObjUnit]) -> Result<Names, NoMemory>
     ensures { IfOk result (λ names. (s : List ℕ) → look_up names s ≡ shared_in units.now s) }
 {
     let mut names = HashMap::new(alloc);
-    for (place, unit) in units.iter().enumerate() {
-        let Ok(number) = u32::try_from(place) else {
+    for (position, unit) in units.iter().enumerate() {
+        let Ok(number) = u32::try_from(position) else {
             return Err(NoMemory);
         };
         note_unit(alloc, &mut names, true, number, unit)?;
@@ -116,13 +139,13 @@ fn shared_names(alloc: Global, units: &[ObjUnit]) -> Result<Names, NoMemory>
     Ok(names)
 }
 
-/// Where symbols lead in each unit by its own definitions.
+/// The definitions of each unit, by symbol.
 fn own_names(alloc: Global, units: &[ObjUnit]) -> Result<Vec<Names>, NoMemory>
     ensures { IfOk result (λ own. map look_up own.items ≡ names_of 0 units.now) }
 {
     let mut own = Vec::new(alloc);
-    for (place, unit) in units.iter().enumerate() {
-        let Ok(number) = u32::try_from(place) else {
+    for (position, unit) in units.iter().enumerate() {
+        let Ok(number) = u32::try_from(position) else {
             return Err(NoMemory);
         };
         own.push(unit_names(alloc, number, unit)?)?;
@@ -130,20 +153,38 @@ fn own_names(alloc: Global, units: &[ObjUnit]) -> Result<Vec<Names>, NoMemory>
     Ok(own)
 }
 
-/// Where symbols lead, among units.
-pub fn index_units(alloc: Global, units: &[ObjUnit]) -> Result<Index, NoMemory>
-    ensures shared { IfOk result (λ index. (s : List ℕ) → look_up index.shared s ≡ shared_in units.now s) }
-    ensures own { IfOk result (λ index. map look_up index.own.items ≡ names_of 0 units.now) }
-{
-    let shared = shared_names(alloc, units)?;
-    let own = own_names(alloc, units)?;
-    Ok(Index { shared, own })
-}
-
 impl Index {
+    /// The objects, with the index of their symbols.
+    pub fn new(alloc: Global, objects: Objects) -> Result<Index, NoMemory>
+        ensures { IfOk result (λ index. index ≡ objects) }
+    {
+        let units = objects.units.as_slice();
+        let shared = shared_names(alloc, units)?;
+        let own = own_names(alloc, units)?;
+        Ok(Index {
+            objects,
+            shared,
+            own,
+        })
+    }
+
+    /// The objects.
+    pub fn objects(&self) -> &Objects
+        ensures { result.now ≡ self.now }
+    {
+        &self.objects
+    }
+
+    /// The units of the objects.
+    pub fn units(&self) -> &[ObjUnit]
+        ensures { result.now ≡ self.now.units }
+    {
+        self.objects.units.as_slice()
+    }
+
     /// The unit's own first definition of a symbol.
     pub fn own_def(&self, unit: u32, symbol: &[u8]) -> Option<Target>
-        ensures { result ≡ look_up_if (slice_get self.now.own.items unit) symbol.now }
+        ensures { result ≡ own_in self.now.units unit symbol.now }
     {
         let names = self.own.get(unit as usize)?;
         names.get(symbol).copied()
@@ -151,14 +192,15 @@ impl Index {
 
     /// The first definition of a symbol to which every unit may refer.
     pub fn shared_def(&self, symbol: &[u8]) -> Option<Target>
-        ensures { result ≡ look_up self.now.shared symbol.now }
+        ensures { result ≡ shared_in self.now.units symbol.now }
     {
         self.shared.get(symbol).copied()
     }
 
-    /// The definition to which a symbol leads in a unit.
+    /// The definition that a reference to the symbol names in the unit with the number.
+    #[tactic(auto, using(crate::proofs::Finding::found))]
     pub fn find(&self, unit: u32, symbol: &[u8]) -> Option<Target>
-        ensures { result ≡ option_or (look_up_if (slice_get self.now.own.items unit) symbol.now) (look_up self.now.shared symbol.now) }
+        ensures { result ≡ find_in self.now.units unit symbol.now }
     {
         self.own_def(unit, symbol).or(self.shared_def(symbol))
     }

@@ -1,12 +1,12 @@
 ghost use Rattle.std.specs.Prelude.{◌≡◌, IfOk, slice_get};
-ghost use Rattle.mm_link.specs.Clashes.{HasAll, HasOne, IsIndexOf};
+ghost use Rattle.mm_link.specs.Clashes.{HasAll, HasOne};
 ghost use Rattle.mm_link.specs.Linking.{IsVerdict, name_at};
 ghost use Rattle.mm_link.specs.declared.fault.LinkFault.TheVariants as fault;
 
 use crate::clash::least_clash;
 use crate::fault::LinkFault;
 use crate::image::Image;
-use crate::index::{Index, index_units};
+use crate::index::Index;
 use crate::references::missing;
 use mm_objects::{Clash, ObjUnit, Objects};
 use mm_terms::{NoMemory, Text};
@@ -33,14 +33,13 @@ fn double(alloc: Global, units: &[ObjUnit], clash: Clash) -> Result<LinkFault, N
 }
 
 /// Refuses units with a clash.
-fn check_clashes(alloc: Global, units: &[ObjUnit], index: &Index) -> Result<(), LinkFault>
-    requires { IsIndexOf units.now index.now }
-    ensures { HasOne units.now result }
+fn check_clashes(alloc: Global, index: &Index) -> Result<(), LinkFault>
+    ensures { HasOne index.now.units result }
 {
-    match least_clash(alloc, units, index) {
+    match least_clash(alloc, index) {
         Err(_) => Err(LinkFault::NoMemory),
         Ok(None) => Ok(()),
-        Ok(Some(clash)) => match double(alloc, units, clash) {
+        Ok(Some(clash)) => match double(alloc, index.units(), clash) {
             Ok(fault) => Err(fault),
             Err(_) => Err(LinkFault::NoMemory),
         },
@@ -48,17 +47,34 @@ fn check_clashes(alloc: Global, units: &[ObjUnit], index: &Index) -> Result<(), 
 }
 
 /// Refuses units with a reference that names nothing.
-fn check_references(alloc: Global, units: &[ObjUnit], index: &Index) -> Result<(), LinkFault>
-    requires { IsIndexOf units.now index.now }
-    ensures { HasAll units.now result }
+fn check_references(alloc: Global, index: &Index) -> Result<(), LinkFault>
+    ensures { HasAll index.now.units result }
 {
-    match missing(alloc, units, index) {
+    match missing(alloc, index) {
         Err(_) => Err(LinkFault::NoMemory),
         Ok(None) => Ok(()),
-        Ok(Some(reference)) => match name(alloc, units, reference.unit) {
+        Ok(Some(reference)) => match name(alloc, index.units(), reference.unit) {
             Ok(unit) => Err(LinkFault::Undefined(unit, reference.symbol)),
             Err(_) => Err(LinkFault::NoMemory),
         },
+    }
+}
+
+/// Links objects with their index.
+fn link_indexed(alloc: Global, index: Index) -> Result<Image, LinkFault>
+    ensures { IsVerdict index result }
+{
+    match check_clashes(alloc, &index) {
+        Err(fault) => return Err(fault),
+        Ok(()) => {}
+    }
+    match check_references(alloc, &index) {
+        Err(fault) => return Err(fault),
+        Ok(()) => {}
+    }
+    match index.shared_def(index.objects().main.as_slice()) {
+        None => Err(LinkFault::NoMain),
+        Some(main) => Ok(Image::new(index, main)),
     }
 }
 
@@ -68,20 +84,8 @@ fn check_references(alloc: Global, units: &[ObjUnit], index: &Index) -> Result<(
 pub fn link(alloc: Global, objects: Objects) -> Result<Image, LinkFault>
     ensures { IsVerdict objects result }
 {
-    let units = objects.units.as_slice();
-    let Ok(index) = index_units(alloc, units) else {
-        return Err(LinkFault::NoMemory);
-    };
-    match check_clashes(alloc, units, &index) {
-        Err(fault) => return Err(fault),
-        Ok(()) => {}
-    }
-    match check_references(alloc, units, &index) {
-        Err(fault) => return Err(fault),
-        Ok(()) => {}
-    }
-    match index.shared_def(objects.main.as_slice()) {
-        None => Err(LinkFault::NoMain),
-        Some(main) => Ok(Image::new(objects, main, index)),
+    match Index::new(alloc, objects) {
+        Ok(index) => link_indexed(alloc, index),
+        Err(_) => Err(LinkFault::NoMemory),
     }
 }

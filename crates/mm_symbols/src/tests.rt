@@ -37,113 +37,81 @@ const SYMBOLS: [(&str, bool); 28] = [
     ("_MMyN3app2TrEIE4dropIE", false),
 ];
 
-/// The form of an item, the head of its type and how many times `u64` stands below it; its symbol, the text of the
-/// type, the text of the item, and the listing of the item.
-const ITEMS: [(u8, TyHead, u32, [&str; 4]); 9] = [
+/// An item as the letter of its form, the head of its type and how many times `u64` stands below the head; its symbol; and
+/// its listing.
+const ITEMS: [(u8, TyHead, u32, &str, &str); 9] = [
     (
         b'F',
         TyHead::Boxed,
         1,
-        [
-            "_MFN3app1fEIByE",
-            "Box<u64>",
-            "fn app::f<Box<u64>>",
-            "MONO_ITEM fn app::f<Box<u64>>\n",
-        ],
+        "_MFN3app1fEIByE",
+        "MONO_ITEM fn app::f<Box<u64>>\n",
     ),
     (
         b'F',
         TyHead::Tuple,
         2,
-        [
-            "_MFN3app1fEITyyEE",
-            "(u64, u64)",
-            "fn app::f<(u64, u64)>",
-            "MONO_ITEM fn app::f<(u64, u64)>\n",
-        ],
+        "_MFN3app1fEITyyEE",
+        "MONO_ITEM fn app::f<(u64, u64)>\n",
     ),
     (
         b'L',
         TyHead::Dyn(DefId(0)),
         1,
-        [
-            "_MLDN3app1fEIyE",
-            "dyn app::f<u64>",
-            "glue dyn app::f<u64>",
-            "MONO_ITEM glue dyn app::f<u64>\n",
-        ],
+        "_MLDN3app1fEIyE",
+        "MONO_ITEM glue dyn app::f<u64>\n",
     ),
     (
         b'L',
         TyHead::Adt(DefId(0)),
         1,
-        [
-            "_MLAN3app1fEIyE",
-            "app::f<u64>",
-            "glue app::f<u64>",
-            "MONO_ITEM glue app::f<u64>\n",
-        ],
+        "_MLAN3app1fEIyE",
+        "MONO_ITEM glue app::f<u64>\n",
     ),
     (
         b'L',
         TyHead::Closure(DefId(0)),
         1,
-        [
-            "_MLCN3app1fEIyE",
-            "closure app::f<u64>",
-            "glue closure app::f<u64>",
-            "MONO_ITEM glue closure app::f<u64>\n",
-        ],
+        "_MLCN3app1fEIyE",
+        "MONO_ITEM glue closure app::f<u64>\n",
     ),
     (
         b'H',
         TyHead::FnItem(DefId(0)),
         1,
-        [
-            "_MHGN3app1fEIyE",
-            "fnitem app::f<u64>",
-            "shim fnitem app::f<u64>",
-            "MONO_ITEM shim fnitem app::f<u64>\n",
-        ],
+        "_MHGN3app1fEIyE",
+        "MONO_ITEM shim fnitem app::f<u64>\n",
     ),
-    (
-        b'L',
-        TyHead::Ref,
-        1,
-        ["_MLRy", "&u64", "glue &u64", "MONO_ITEM glue &u64\n"],
-    ),
+    (b'L', TyHead::Ref, 1, "_MLRy", "MONO_ITEM glue &u64\n"),
     (
         b'H',
         TyHead::FnPtr,
         2,
-        [
-            "_MHPyEy",
-            "fnptr(u64) -> u64",
-            "shim fnptr(u64) -> u64",
-            "MONO_ITEM shim fnptr(u64) -> u64\n",
-        ],
+        "_MHPyEy",
+        "MONO_ITEM shim fnptr(u64) -> u64\n",
     ),
     (
         b'S',
         TyHead::Bool,
         0,
-        [
-            "_MSN3app1fE",
-            "bool",
-            "static app::f",
-            "MONO_ITEM static app::f\n",
-        ],
+        "_MSN3app1fE",
+        "MONO_ITEM static app::f\n",
     ),
 ];
+
+/// The symbol that is read, written again; nothing where none is read.
+fn written_again(alloc: Global, bytes: &[u8]) -> Result<Text, NoMemory> {
+    match read_symbol(alloc, bytes)? {
+        Some(form) => write_symbol(alloc, &form),
+        None => Ok(Text::new(alloc)),
+    }
+}
 
 #[test]
 fn symbols_are_read_and_written_again(rt: HostRuntime) -> Result<(), Fail> {
     let alloc = rt.alloc();
     for (bytes, is_symbol) in SYMBOLS {
-        let written = match read_symbol(alloc, bytes.as_bytes())? {
-            Some(form) => write_symbol(alloc, &form)?,
-            None => Text::new(alloc),
-        };
+        let written = written_again(alloc, bytes.as_bytes())?;
         let expected = if is_symbol { bytes } else { "" };
         assert_eq!(rt; written.as_slice(), expected.as_bytes(), "{bytes}");
     }
@@ -194,18 +162,57 @@ fn item(alloc: Global, form: u8, ty: Ty) -> Result<Item, NoMemory> {
     }
 }
 
+/// The item of this form, of the type with this head over so many times `u64`.
+fn row_item(alloc: Global, form: u8, head: TyHead, arity: u32) -> Result<Item, NoMemory> {
+    item(alloc, form, ty(alloc, head, arity)?)
+}
+
+/// The symbol of an item of the program.
+fn symbol_of(alloc: Global, item: &Item) -> Result<Text, NoMemory> {
+    symbol(alloc, &program(alloc)?, item)
+}
+
+/// The listing of an item of the program.
+fn listing_of(alloc: Global, item: Item) -> Result<Vec<u8>, NoMemory> {
+    list_items(alloc, &program(alloc)?, &[item])
+}
+
+/// The text of an item of the program.
+fn item_text_of(alloc: Global, item: &Item) -> Result<Vec<u8>, NoMemory> {
+    item_text(alloc, &program(alloc)?, item)
+}
+
+/// The text of a type of the program.
+fn type_text_of(alloc: Global, ty: &Ty) -> Result<Vec<u8>, NoMemory> {
+    type_text(alloc, &program(alloc)?, ty)
+}
+
 #[test]
-fn items_have_symbols_and_texts(rt: HostRuntime) -> Result<(), Fail> {
+fn items_have_symbols(rt: HostRuntime) -> Result<(), Fail> {
     let alloc = rt.alloc();
-    let p = program(alloc)?;
-    for (form, head, arity, [name, of_type, of_item, listing]) in ITEMS {
-        let ty = ty(alloc, head, arity)?;
-        assert_eq!(rt; type_text(alloc, &p, &ty)?.as_slice(), of_type.as_bytes());
-        let item = item(alloc, form, ty)?;
-        assert_eq!(rt; symbol(alloc, &p, &item)?.as_slice(), name.as_bytes());
-        assert_eq!(rt; item_text(alloc, &p, &item)?.as_slice(), of_item.as_bytes());
-        let listed = list_items(alloc, &p, &[item])?;
-        assert_eq!(rt; listed.as_slice(), listing.as_bytes());
+    for (form, head, arity, expected, _) in ITEMS {
+        let found = symbol_of(alloc, &row_item(alloc, form, head, arity)?)?;
+        assert_eq!(rt; found.as_slice(), expected.as_bytes());
     }
+    Ok(())
+}
+
+#[test]
+fn items_are_listed(rt: HostRuntime) -> Result<(), Fail> {
+    let alloc = rt.alloc();
+    for (form, head, arity, _, expected) in ITEMS {
+        let found = listing_of(alloc, row_item(alloc, form, head, arity)?)?;
+        assert_eq!(rt; found.as_slice(), expected.as_bytes());
+    }
+    Ok(())
+}
+
+#[test]
+fn texts_are_made(rt: HostRuntime) -> Result<(), Fail> {
+    let alloc = rt.alloc();
+    let of_item = item_text_of(alloc, &row_item(alloc, b'F', TyHead::Boxed, 1)?)?;
+    assert_eq!(rt; of_item.as_slice(), b"fn app::f<Box<u64>>".as_slice());
+    let of_type = type_text_of(alloc, &ty(alloc, TyHead::Tuple, 2)?)?;
+    assert_eq!(rt; of_type.as_slice(), b"(u64, u64)".as_slice());
     Ok(())
 }

@@ -5,5 +5,5 @@ use Rattle.mm_objects.specs.Resolution.{shared_in}
 use Rattle.mm_link.proofs.index.shared_names.Given as goal
 
 -- what is noted, and what the units that are left give, is what all give
-abbrev pub invariant-loop-place : goal.invariant-loop-place
-invariant-loop-place l = (s : List ℕ) → option_or (look_up l.names s) (shared_from l.place (drop l.place l.units) s) ≡ shared_in l.units s
+abbrev pub invariant-loop-position : goal.invariant-loop-position
+invariant-loop-position l = (s : List ℕ) → option_or (look_up l.names s) (shared_from l.position (drop l.position l.units) s) ≡ shared_in l.units s

@@ -5,5 +5,5 @@ use Rattle.mm_objects.specs.Linking.{first_undefined, is_undefined, unit_referen
 use Rattle.mm_link.proofs.references.missing.Given as goal
 
 -- nothing is missing before
-abbrev pub invariant-loop-place : goal.invariant-loop-place
-invariant-loop-place l = find (is_undefined l.units) (flat_map unit_references (enumerate_from l.place (drop l.place l.units))) ≡ first_undefined l.units
+abbrev pub invariant-loop-position : goal.invariant-loop-position
+invariant-loop-position l = find (is_undefined l.index.units) (flat_map unit_references (enumerate_from l.position (drop l.position l.index.units))) ≡ first_undefined l.index.units

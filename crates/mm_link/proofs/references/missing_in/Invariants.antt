@@ -7,5 +7,5 @@ use Rattle.mm_link.proofs.references.missing_in.Given as goal
 -- nothing is missing before
 abbrev pub invariant-loop-block : goal.invariant-loop-block
 invariant-loop-block l =
-    find (λ s. is_undefined l.units (l.unit, s)) (flat_map (λ b. end_symbols b.end) (drop l.block-index l.block-items))
-    ≡ find (λ s. is_undefined l.units (l.unit, s)) (def_symbols l.def)
+    find (λ s. is_undefined l.index.units (l.unit, s)) (flat_map (λ b. end_symbols b.end) (drop l.block-index l.block-items))
+    ≡ find (λ s. is_undefined l.index.units (l.unit, s)) (def_symbols l.def)

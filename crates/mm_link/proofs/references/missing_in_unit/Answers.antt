@@ -8,7 +8,7 @@ use Rattle.mm_link.proofs.references.missing_in_unit.Goals as goal
 
 pub returns-in-Some : goal.returns-in-Some
 returns-in-Some c =
-    let us = c.args.units.now in
+    let us = c.args.index.now.units in
     found_here (λ s. is_undefined us (c.args.number, s)) def_symbols c.as_slice-def-items.result.now c.loop-def.def-index c.def-item.result
     (find (λ s. is_undefined us (c.args.number, s)) (flat_map def_symbols c.args.unit.now.defs)) c.in-Some.symbol.now
     c.loop-def-test.true c.def-item.is (sym c.missing_in.ensures ∙ ap (option_map (λ s. s.now)) c.in-Some.is) c.loop-def.invariant

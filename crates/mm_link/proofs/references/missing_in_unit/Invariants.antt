@@ -7,5 +7,5 @@ use Rattle.mm_link.proofs.references.missing_in_unit.Given as goal
 -- nothing is missing before
 abbrev pub invariant-loop-def : goal.invariant-loop-def
 invariant-loop-def l =
-    find (λ s. is_undefined l.units (l.number, s)) (flat_map def_symbols (drop l.def-index l.def-items))
-    ≡ find (λ s. is_undefined l.units (l.number, s)) (flat_map def_symbols l.unit.defs)
+    find (λ s. is_undefined l.index.units (l.number, s)) (flat_map def_symbols (drop l.def-index l.def-items))
+    ≡ find (λ s. is_undefined l.index.units (l.number, s)) (flat_map def_symbols l.unit.defs)

@@ -1,0 +1,188 @@
+use crate::names::{Name, Path, PathWithArgs};
+use crate::types::Type;
+use sqlite_items::Items;
+
+/// The body of a function, method or closure.
+#[derive(Drop)]
+pub struct Body {
+    /// The types of the locals that follow the parameters, in the order of their numbers.
+    pub lets: Items<Type>,
+    /// The blocks, in the order of their labels; at least one.
+    pub blocks: Items<Block>,
+}
+
+/// A basic block.
+#[derive(Drop)]
+pub struct Block {
+    pub statements: Items<Statement>,
+    pub end: End,
+}
+
+/// A statement.
+#[derive(Drop)]
+pub enum Statement {
+    Set(Place, Rvalue),
+    Print(Operand),
+}
+
+/// The terminator of a block.
+#[derive(Drop)]
+pub enum End {
+    Return,
+    Unreachable,
+    Goto(Label),
+    Switch(Switch),
+    Call(Call),
+    Drop(Place, Label),
+}
+
+/// A jump by the value of an operand.
+#[derive(Drop)]
+pub struct Switch {
+    pub operand: Operand,
+    pub arms: Items<Arm>,
+    /// The label after `else`.
+    pub otherwise: Label,
+}
+
+/// The number that an arm of a switch is for, and its target.
+#[derive(Clone, Copy, Drop)]
+pub struct Arm {
+    pub number: u64,
+    pub label: Label,
+}
+
+/// A call, whose result goes to a place.
+#[derive(Drop)]
+pub struct Call {
+    pub place: Place,
+    pub called: Called,
+    pub operands: Items<Operand>,
+    /// The block that goes on after the call.
+    pub target: Label,
+}
+
+/// What a call calls: a callee by its name, or the function that an operand points to.
+#[derive(Drop)]
+pub enum Called {
+    Callee(Callee),
+    Pointer(Operand),
+}
+
+/// A function by its name.
+#[derive(Drop)]
+pub enum Callee {
+    /// A function.
+    Direct(PathWithArgs),
+    /// `<T as Trait>::method`.
+    Method(MethodCallee),
+    /// `<T as Call>::call`.
+    Call(Type),
+}
+
+/// A method of a trait for a type.
+#[derive(Drop)]
+pub struct MethodCallee {
+    pub self_type: Type,
+    /// The trait.
+    pub of: PathWithArgs,
+    pub name: Name,
+    /// The type arguments of the method.
+    pub args: Items<Type>,
+}
+
+/// A MIR place: a local or a static, and the projections from it.
+#[derive(Drop)]
+pub struct Place {
+    /// The line of its first token.
+    pub line: u32,
+    pub base: Base,
+    pub steps: Items<Step>,
+}
+
+/// Where a place begins.
+#[derive(Drop)]
+pub enum Base {
+    /// The local of this number: 0 is the result, then the parameters, then the locals of `let`.
+    Local(u32),
+    Static(Path),
+}
+
+/// A projection.
+#[derive(Drop)]
+pub enum Step {
+    /// The field of this number, from 0.
+    Field(u64),
+    /// What a reference or a box refers to.
+    Deref,
+    /// The variant of this name of an enum.
+    Variant(Name),
+}
+
+/// An operand.
+#[derive(Drop)]
+pub enum Operand {
+    Copy(Place),
+    Move(Place),
+    Number(u64),
+    Bool(bool),
+    Const(PathWithArgs),
+    /// A function as a value.
+    Fn(Callee),
+}
+
+/// An operation on two operands.
+#[derive(Clone, Copy, Debug, Drop, PartialEq, Eq)]
+pub enum Op {
+    Add,
+    Sub,
+    Mul,
+    Div,
+    Rem,
+    Eq,
+    Lt,
+}
+
+/// The value that a statement gives to a place.
+#[derive(Drop)]
+pub enum Rvalue {
+    Use(Operand),
+    /// The address of a place.
+    Ref(Place),
+    Not(Operand),
+    Binary(Op, Operand, Operand),
+    /// The number of the active variant of an enum.
+    Variant(Place),
+    /// The operand in a new box.
+    Boxed(Operand),
+    Tuple(Items<Operand>),
+    New(New),
+    /// `dyncast`: the operand, of which this is the type behind the pointer, as a pointer to `dyn` of a trait.
+    Dyn(Operand, Type, DynTrait),
+}
+
+/// A struct, a closure, or a variant of an enum, with its fields.
+#[derive(Drop)]
+pub struct New {
+    pub of: PathWithArgs,
+    /// The variant of an enum.
+    pub variant: Option<Name>,
+    pub operands: Items<Operand>,
+}
+
+/// `dyn` and a trait.
+#[derive(Drop)]
+pub struct DynTrait {
+    /// The line of `dyn`.
+    pub line: u32,
+    pub of: PathWithArgs,
+}
+
+/// The label of a block.
+#[derive(Clone, Copy, Drop)]
+pub struct Label {
+    /// The line of the label.
+    pub line: u32,
+    /// The number of the block, from 0.
+    pub number: u32,
+}

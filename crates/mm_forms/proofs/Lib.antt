@@ -1,0 +1,9 @@
+pub mod Loops
+pub mod Laws
+pub mod Parts
+pub mod FormLaws
+pub mod Spellings
+pub mod Openings
+pub mod Nesting
+pub mod Verdicts
+pub mod Values

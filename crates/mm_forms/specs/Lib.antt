@@ -1,0 +1,5 @@
+pub mod Language
+pub mod Forms
+pub mod Nesting
+pub mod Verdict
+pub mod Given

@@ -7,3 +7,5 @@ pub mod Openings
 pub mod Nesting
 pub mod Verdicts
 pub mod Values
+pub mod Environments
+pub mod Levels

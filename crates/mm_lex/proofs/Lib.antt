@@ -1,9 +1,7 @@
-pub mod LexPrefixLaws
-pub mod LexPunctLemmas
-pub mod LexNameBytes
-pub mod LexNameLemmas
-pub mod LexNameTests
-pub mod LexNumberLemmas
-pub mod LexRunLemmas
-pub mod LexTextLaws
-pub mod LexWordLemmas
+pub mod Fronts
+pub mod KindLemmas
+pub mod PunctLemmas
+pub mod PieceLaws
+pub mod PositionLaws
+pub mod Scanning
+pub mod TextLaws

@@ -1,6 +1,6 @@
-pub mod LexPuncts
-pub mod LexReading
-pub mod LexNames
-pub mod LexText
-pub mod LexTokens
-pub mod LexWords
+pub mod FirstPieces
+pub mod Lexemes
+pub mod Pieces
+pub mod Positions
+pub mod Puncts
+pub mod Tokens

@@ -1,9 +1,8 @@
 ghost use Rattle.std.specs.Prelude.{◌≡◌};
-ghost use Rattle.mm_lex.specs.LexPuncts.{punct_spelling};
-ghost use Rattle.mm_lex.specs.LexReading.{punct_in};
+ghost use Rattle.mm_lex.specs.Puncts.{punct_in};
 
 /// A punctuation token, of one or two characters.
-#[derive(Clone, Copy, PartialEq, Eq)]
+#[derive(Clone, Copy, Debug, PartialEq, Eq)]
 pub enum Punct {
     /// `::`
     PathSep,
@@ -46,60 +45,33 @@ pub enum Punct {
 }
 
 impl Punct {
-    /// How the token is written.
-    pub fn text(self) -> &'static str
-        ensures { result.now ≡ punct_spelling self }
+    /// The punctuation that the bytes spell.
+    #[tactic(auto, unfolding(crate::specs::Puncts::punct_in))]
+    pub fn from_bytes(bytes: &[u8]) -> Option<Punct>
+        ensures { result ≡ punct_in bytes.now }
     {
-        match self {
-            Punct::PathSep => "::",
-            Punct::Arrow => "->",
-            Punct::FatArrow => "=>",
-            Punct::Open => "(",
-            Punct::Close => ")",
-            Punct::OpenBrace => "{",
-            Punct::CloseBrace => "}",
-            Punct::Less => "<",
-            Punct::Greater => ">",
-            Punct::OpenBracket => "[",
-            Punct::CloseBracket => "]",
-            Punct::Comma => ",",
-            Punct::Semicolon => ";",
-            Punct::Colon => ":",
-            Punct::Dot => ".",
-            Punct::Star => "*",
-            Punct::At => "@",
-            Punct::Ampersand => "&",
-            Punct::Equals => "=",
-        }
+        let punct = match bytes {
+            b"::" => Punct::PathSep,
+            b"->" => Punct::Arrow,
+            b"=>" => Punct::FatArrow,
+            b"(" => Punct::Open,
+            b")" => Punct::Close,
+            b"{" => Punct::OpenBrace,
+            b"}" => Punct::CloseBrace,
+            b"<" => Punct::Less,
+            b">" => Punct::Greater,
+            b"[" => Punct::OpenBracket,
+            b"]" => Punct::CloseBracket,
+            b"," => Punct::Comma,
+            b";" => Punct::Semicolon,
+            b":" => Punct::Colon,
+            b"." => Punct::Dot,
+            b"*" => Punct::Star,
+            b"@" => Punct::At,
+            b"&" => Punct::Ampersand,
+            b"=" => Punct::Equals,
+            _ => return None,
+        };
+        Some(punct)
     }
-}
-
-/// The punctuation token with which a text begins: of two that stand there, the longer one.
-#[tactic(auto, unfolding(crate::specs::LexReading::punct_in))]
-pub fn prefix_punct(text: &[char]) -> Option<Punct>
-    ensures { result ≡ punct_in text.now }
-{
-    let punct = match text {
-        [':', ':', ..] => Punct::PathSep,
-        ['-', '>', ..] => Punct::Arrow,
-        ['=', '>', ..] => Punct::FatArrow,
-        ['(', ..] => Punct::Open,
-        [')', ..] => Punct::Close,
-        ['{', ..] => Punct::OpenBrace,
-        ['}', ..] => Punct::CloseBrace,
-        ['<', ..] => Punct::Less,
-        ['>', ..] => Punct::Greater,
-        ['[', ..] => Punct::OpenBracket,
-        [']', ..] => Punct::CloseBracket,
-        [',', ..] => Punct::Comma,
-        [';', ..] => Punct::Semicolon,
-        [':', ..] => Punct::Colon,
-        ['.', ..] => Punct::Dot,
-        ['*', ..] => Punct::Star,
-        ['@', ..] => Punct::At,
-        ['&', ..] => Punct::Ampersand,
-        ['=', ..] => Punct::Equals,
-        _ => return None,
-    };
-    Some(punct)
 }

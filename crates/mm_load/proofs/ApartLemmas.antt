@@ -7,25 +7,21 @@ use Rattle.std.proofs.lemmas.Bool.{both_ways, or_parts}
 use Rattle.std.proofs.lemmas.List.{append_cancel_left}
 use Rattle.std.proofs.lemmas.List.Elements.{All-nil, All-cons, All-head, All-tail, All-append, All-weaker}
 use Rattle.std.proofs.lemmas.Option.{slice_get_within}
-use Rattle.mm_lex.specs.declared.token.Position.{Position}
-use Rattle.mm_lex.specs.LexTokens.{IsName}
-use Rattle.mm_parse.specs.declared.ast.Crate.{Crate}
-use Rattle.mm_parse.specs.declared.ast.Item.{Item}
-use Rattle.mm_parse.specs.declared.ast.Name.{Name}
-use Rattle.mm_parse.specs.Grammar as grammar
-use Rattle.mm_load.specs.Rules.{along, again, position_if, Member, member_of, double_among, double_in_items}
-use Rattle.mm_load.specs.WrittenItem.{Defined, path_in, functions_in, functions_of}
-use Rattle.mm_load.proofs.ItemViews.{name_of, items_in}
+use Rattle.mm_names.specs.Names.{IsName}
+use Rattle.mm_ast.specs.declared.items.Crate.{Crate}
+use Rattle.mm_ast.specs.declared.items.Item.{Item}
+use Rattle.mm_ast.specs.declared.names.Name.{Name}
+use Rattle.mm_load.specs.Rules.{along, again, line_if, Member, member_of, double_among, double_in_items}
+use Rattle.mm_load.specs.WrittenItem.{Defined, path_in, functions_in, functions_of, name_of}
+use Rattle.mm_load.proofs.ItemViews.{items_in}
 use Rattle.mm_load.proofs.ColonLemmas.{one_name}
-use Rattle.mm_load.proofs.FormLemmas.{path_of, defined, module_functions, function_alone, module_inside}
-use Rattle.mm_load.proofs.SpelledItems.{of_text}
+use Rattle.mm_load.proofs.FormLemmas.{path_of, defined, module_functions, function_alone, module_inside, named_module, named_function}
+use Rattle.mm_load.proofs.WrittenItems.{IsFine, of_crate}
 use Rattle.mm_terms.proofs.ListLemmas.{All-flat_map, All-slice_get}
-use Rattle.mm_load.proofs.FormedLemmas.{named_function}
 use Rattle.mm_load.proofs.ItemLemmas.{member_of-name}
 use Rattle.mm_load.proofs.KeptLemmas.{none_both, none_if, all_parts}
 use Rattle.mm_load.proofs.MemberLemmas.{doubled}
 use Rattle.mm_load.proofs.IndexLemmas.{bytes_same}
-use Rattle.mm_load.proofs.SpelledLemmas.{Spelling}
 
 -- ---- lists of functions, each with a path of its own
 
@@ -71,20 +67,20 @@ none_any test (x ∷ xs) h =
     All-cons (λ x. test x ≡ false) x xs parts.0 (none_any test xs parts.1)
 
 -- a name that none of those before has
-not_again : (before : List Member) (m : Member) → again (map (λ other. other.name.text) before) m.name.text m.name.at ≡ [] → All (λ other. HasOther other m) before
+not_again : (before : List Member) (m : Member) → again (map (λ other. other.name.text) before) m.name.text m.name.line ≡ [] → All (λ other. HasOther other m) before
 not_again [] m none = All-nil (λ other. HasOther other m)
 not_again (b ∷ before) m none =
-    let tests = or_parts (bytes_eq m.name.text b.name.text) (list_any (bytes_eq m.name.text) (map (λ other. other.name.text) before)) (none_if (list_any (bytes_eq m.name.text) (map (λ other. other.name.text) (b ∷ before))) m.name.at none) in
+    let tests = or_parts (bytes_eq m.name.text b.name.text) (list_any (bytes_eq m.name.text) (map (λ other. other.name.text) before)) (none_if (list_any (bytes_eq m.name.text) (map (λ other. other.name.text) (b ∷ before))) m.name.line none) in
     All-cons (λ other. HasOther other m) b before
     (λ same. both_ways (bytes_eq m.name.text b.name.text) tests.0 (subst (λ text. bytes_eq m.name.text text ≡ true) (sym same) (bytes_same m.name.text)))
-    (not_again before m (ap (λ test. position_if test m.name.at) tests.1))
+    (not_again before m (ap (λ test. line_if test m.name.line) tests.1))
 
 -- those behind have other names than those before
 later_other : (before ms : List Member) → along doubled before ms ≡ [] → All (λ b. All (HasOther b) ms) before
 later_other before [] none = λ k d within. All-nil (HasOther (get_or before k d))
 later_other before (m ∷ ms) none =
     let parts = none_both (doubled before m) (along doubled (before ++ m ∷ []) ms) none in
-    let first = none_both (again (map (λ other. other.name.text) before) m.name.text m.name.at) m.inside parts.0 in
+    let first = none_both (again (map (λ other. other.name.text) before) m.name.text m.name.line) m.inside parts.0 in
     let others = (all_parts (λ b. All (HasOther b) ms) before (m ∷ []) (later_other (before ++ m ∷ []) ms parts.1)).0 in
     λ k d within. All-cons (HasOther (get_or before k d)) m ms (not_again before m first.0 k d within) (others k d within)
 
@@ -92,7 +88,7 @@ all_other : (before ms : List Member) → along doubled before ms ≡ [] → Are
 all_other before [] none = (tt, All-nil (λ m. m.inside ≡ []))
 all_other before (m ∷ ms) none =
     let parts = none_both (doubled before m) (along doubled (before ++ m ∷ []) ms) none in
-    let first = none_both (again (map (λ other. other.name.text) before) m.name.text m.name.at) m.inside parts.0 in
+    let first = none_both (again (map (λ other. other.name.text) before) m.name.text m.name.line) m.inside parts.0 in
     let here = (all_parts (λ b. All (HasOther b) ms) before (m ∷ []) (later_other (before ++ m ∷ []) ms parts.1)).1 in
     let rest = all_other (before ++ m ∷ []) ms parts.1 in
     ((All-head (λ b. All (HasOther b) ms) m [] here, rest.0), All-cons (λ m. m.inside ≡ []) m ms first.1 rest.1)
@@ -125,7 +121,7 @@ abbrev AreBelow : List ℕ → List Defined → Type 0
 AreBelow prefix = All (λ d. IsBelow prefix d.path)
 
 -- what is so of some functions, where nothing is reported of what is inside
-abbrev Facts : List ℕ → Name → List Position → List Defined → Type 0
+abbrev Facts : List ℕ → Name → List ℕ → List Defined → Type 0
 Facts prefix n inside functions = IsName n.text × AreBelow (path_in prefix n.text) functions × (inside ≡ [] → AreApart functions)
 
 abbrev ItemFacts : Item → Type 0
@@ -176,23 +172,23 @@ module _ (prefix : List ℕ) where
       (λ d below. below_below prefix (name_of item).text d.path below)
       (functions_in item prefix) (facts k one within prefix).1)
 
--- in a tree that a text spells, and that has no name twice in a module
-pub apart : (tree : Crate) → Spelling (grammar.text tree) → double_in_items tree.items ≡ [] → AreApart (functions_of tree)
+-- in a crate that is written and built, and that has no name twice in a module
+pub apart : (krate : Crate) → IsFine krate → double_in_items krate.items ≡ [] → AreApart (functions_of krate)
 unfolding functions_of
-apart tree spelling none =
-    let facts = of_text ItemFacts
-    (λ item is named each prefix.
-    let functions = module_functions item prefix is in (
-      named,
+apart krate fine none =
+    let facts = of_crate ItemFacts
+    (λ item name is named each prefix.
+    let functions = module_functions item prefix name is in (
+      named_module item name is named,
       subst (AreBelow (path_of item prefix)) (sym functions) (module_below (path_of item prefix) (items_in item) each),
-      λ none. subst AreApart (sym functions) (module_apart (path_of item prefix) (items_in item) each (sym (module_inside item is) ∙ none)),
+      λ none. subst AreApart (sym functions) (module_apart (path_of item prefix) (items_in item) each (sym (module_inside item name is) ∙ none)),
     ))
-    (λ item f is no_items function prefix.
-    let alone = function_alone item prefix f is no_items in (
-      named_function (name_of item) f function,
+    (λ item is_pub f is no_items built function prefix.
+    let alone = function_alone item prefix is_pub f is no_items in (
+      named_function item is_pub f is function.named,
       subst (AreBelow (path_of item prefix)) (sym alone)
-          (All-cons (λ d. IsBelow (path_of item prefix) d.path) (defined item prefix f) [] (below_itself (path_of item prefix)) (All-nil (λ d. IsBelow (path_of item prefix) d.path))),
-      λ none. subst AreApart (sym alone) (All-nil (IsOther (defined item prefix f)), tt),
+          (All-cons (λ d. IsBelow (path_of item prefix) d.path) (defined item prefix is_pub f) [] (below_itself (path_of item prefix)) (All-nil (λ d. IsBelow (path_of item prefix) d.path))),
+      λ none. subst AreApart (sym alone) (All-nil (IsOther (defined item prefix is_pub f)), tt),
     ))
-    tree spelling in
-    module_apart tree.name tree.items facts none
+    krate fine in
+    module_apart krate.name.text krate.items facts none

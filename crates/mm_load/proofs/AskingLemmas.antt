@@ -5,44 +5,45 @@ use Rattle.std.proofs.lemmas.List.Concat.{flat_map-append}
 use Rattle.std.proofs.lemmas.List.Folds.{flat_map-map}
 use Rattle.std.proofs.lemmas.Option.{none-some}
 use Rattle.std.specs.List.{flat_map, slice_get}
-use Rattle.mm_lex.specs.declared.token.Position.{Position}
 use Rattle.mm_load.specs.declared.rule.Rule.{Rule}
 use Rattle.mm_load.specs.declared.load_error.LoadError as errors
-use Rattle.mm_load.specs.declared.load_error.LoadError.TheVariants.{Rule as Broken, NoMemory}
+use Rattle.mm_load.specs.declared.load_error.LoadError.TheVariants.{Rule as Broken, NotBuilt, NoMemory}
 use Rattle.mm_load.specs.Asking.{Reports, answered, reported}
 use Rattle.mm_load.specs.Rules.{along, of_call}
-use Rattle.mm_parse.specs.declared.ast.Call.{Call}
-use Rattle.mm_parse.specs.declared.ast.End.{End}
-use Rattle.mm_parse.specs.declared.ast.End.TheVariants as ends
+use Rattle.mm_ast.specs.declared.bodies.Call.{Call}
+use Rattle.mm_ast.specs.declared.bodies.End.{End}
+use Rattle.mm_ast.specs.declared.bodies.End.TheVariants as ends
 
-first_here : (xs ys : List Position) (at : Position) → slice_get xs 0 ≡ Some at → slice_get (xs ++ ys) 0 ≡ Some at
-first_here [] ys at h = absurd (none-some at h)
-first_here (x ∷ xs) ys at h = h
+first_here : (xs ys : List ℕ) (line : ℕ) → slice_get xs 0 ≡ Some line → slice_get (xs ++ ys) 0 ≡ Some line
+first_here [] ys line h = absurd (none-some line h)
+first_here (x ∷ xs) ys line h = h
 
-reported_here : (rule : Rule) (xs ys : List Position) (e : errors.LoadError) → reported rule xs e → reported rule (xs ++ ys) e
+reported_here : (rule : Rule) (xs ys : List ℕ) (e : errors.LoadError) → reported rule xs e → reported rule (xs ++ ys) e
 reported_here rule xs ys (Broken which at) t = (t.0, first_here xs ys at t.1)
+reported_here rule xs ys NotBuilt t = t
 reported_here rule xs ys NoMemory t = tt
 
 -- what is handed on by `?`
-pub handed : (rule : Rule) (positions : List Position) (r : Result (Unit {0}) errors.LoadError) (e : errors.LoadError) → (x : errors.LoadError) × (r ≡ Err x) × (x ≡ e) → Reports rule positions (Err e) → Reports rule positions r
-handed rule positions r e p t = subst (Reports rule positions) (sym (p.1 ∙ ap Err p.2)) t
+pub handed : (rule : Rule) (lines : List ℕ) (r : Result (Unit {0}) errors.LoadError) (e : errors.LoadError) → (x : errors.LoadError) × (r ≡ Err x) × (x ≡ e) → Reports rule lines (Err e) → Reports rule lines r
+handed rule lines r e p t = subst (Reports rule lines) (sym (p.1 ∙ ap Err p.2)) t
 
 -- a rule that fails in a part fails in the whole, and first in the first such part
-pub reports_here : (rule : Rule) (xs ys : List Position) (e : errors.LoadError) → Reports rule xs (Err e) → Reports rule (xs ++ ys) (Err e)
+pub reports_here : (rule : Rule) (xs ys : List ℕ) (e : errors.LoadError) → Reports rule xs (Err e) → Reports rule (xs ++ ys) (Err e)
 reports_here rule xs ys e t = record { answer = reported_here rule xs ys e t.answer }
 
-pub reports_next : (rule : Rule) (xs ys : List Position) (u : Unit {0}) (r : Result (Unit {0}) errors.LoadError) → Reports rule xs (Ok u) → Reports rule ys r → Reports rule (xs ++ ys) r
+pub reports_next : (rule : Rule) (xs ys : List ℕ) (u : Unit {0}) (r : Result (Unit {0}) errors.LoadError) → Reports rule xs (Ok u) → Reports rule ys r → Reports rule (xs ++ ys) r
 reports_next rule xs ys u r kept t = record { answer = subst (λ ps. answered rule (ps ++ ys) r) (sym kept.answer) t.answer }
 
 -- what is asked of calls is nothing of a block that ends otherwise
-pub no_call : (rule : Rule) (says : Call → List Position) (end : End) → ((call : Call) → end ≡ ends.Call call → ⊥) → Reports rule (of_call says end) (Ok tt)
+pub no_call : (rule : Rule) (says : Call → List ℕ) (end : End) → ((call : Call) → end ≡ ends.Call call → ⊥) → Reports rule (of_call says end) (Ok tt)
 no_call rule says ends.Return other = record { answer = refl }
 no_call rule says ends.Unreachable other = record { answer = refl }
 no_call rule says (ends.Goto label) other = record { answer = refl }
 no_call rule says (ends.Switch switch) other = record { answer = refl }
+no_call rule says (ends.Drop place label) other = record { answer = refl }
 no_call rule says (ends.Call call) other = absurd (other call refl)
 
-module _ {A : Type 0} (f : A → List Position) (xs : List A) (i : ℕ) where
+module _ {A : Type 0} (f : A → List ℕ) (xs : List A) (i : ℕ) where
   flat_map-take : (x : A) → i < length xs → x ≡ get_or xs i x → flat_map f (take (i + 1) xs) ≡ flat_map f (take i xs) ++ f x
   flat_map-take x l at =
       ap (flat_map f) (take_more xs i x l ∙ ap (λ y. take i xs ++ y ∷ []) (sym at))
@@ -53,7 +54,7 @@ module _ {A : Type 0} (f : A → List Position) (xs : List A) (i : ℕ) where
   pub kept_more : (rule : Rule) (x : A) (u : Unit {0}) → flat_map f (take i xs) ≡ [] → i < length xs → x ≡ get_or xs i x → Reports rule (f x) (Ok u) → flat_map f (take (i + 1) xs) ≡ []
   kept_more rule x u kept l at t = flat_map-take x l at ∙ ap (λ ps. ps ++ f x) kept ∙ t.answer
 
-  -- where it fails in the next part, this is the first position of all
+  -- where it fails in the next part, this is the first line of all
   pub fault_more : (rule : Rule) (x : A) (e : errors.LoadError) → flat_map f (take i xs) ≡ [] → i < length xs → x ≡ get_or xs i x → Reports rule (f x) (Err e) → Reports rule (flat_map f xs) (Err e)
   fault_more rule x e kept l at t =
       let here : flat_map f (take (i + 1) xs) ≡ f x = flat_map-take x l at ∙ ap (λ ps. ps ++ f x) kept in
@@ -63,7 +64,7 @@ module _ {A : Type 0} (f : A → List Position) (xs : List A) (i : ℕ) where
   pub kept_all : (rule : Rule) → flat_map f (take i xs) ≡ [] → length xs ≤ i → Reports rule (flat_map f xs) (Ok tt)
   kept_all rule kept l = record { answer = ap (flat_map f) (sym (take_all i xs l)) ∙ kept }
 
-module _ {A : Type 0} (f : List A → A → List Position) (xs : List A) (i : ℕ) where
+module _ {A : Type 0} (f : List A → A → List ℕ) (xs : List A) (i : ℕ) where
   along_more : (x : A) → along f [] xs ≡ along f (take i xs) (drop i xs) → i < length xs → x ≡ get_or xs i x → along f [] xs ≡ f (take i xs) x ++ along f (take (i + 1) xs) (drop (i + 1) xs)
   along_more x so_far l at =
       let more : take (i + 1) xs ≡ take i xs ++ x ∷ [] = take_more xs i x l ∙ ap (λ y. take i xs ++ y ∷ []) (sym at) in
@@ -80,7 +81,7 @@ module _ {A : Type 0} (f : List A → A → List Position) (xs : List A) (i : �
   pub along_all : (rule : Rule) → along f [] xs ≡ along f (take i xs) (drop i xs) → length xs ≤ i → Reports rule (along f [] xs) (Ok tt)
   along_all rule so_far l = record { answer = so_far ∙ ap (along f (take i xs)) (drop_all i xs l) }
 
-module _ {A B : Type 0} (f : B → List Position) (g : A → B) (xs : List A) (i : ℕ) where
+module _ {A B : Type 0} (f : B → List ℕ) (g : A → B) (xs : List A) (i : ℕ) where
   -- the same of a rule that is asked of what contracts see of the parts
   pub fault_seen : (rule : Rule) (x : A) (e : errors.LoadError) → flat_map f (map g (take i xs)) ≡ [] → i < length xs → x ≡ get_or xs i x → Reports rule (f (g x)) (Err e) → Reports rule (flat_map f (map g xs)) (Err e)
   fault_seen rule x e kept l at t = subst (λ ps. Reports rule ps (Err e)) (sym (flat_map-map f g xs)) (fault_more (λ y. f (g y)) xs i rule x e (sym (flat_map-map f g (take i xs)) ∙ kept) l at t)

@@ -4,13 +4,11 @@ use Rattle.std.specs.Prelude.{All}
 use Rattle.std.specs.List.{flat_map, join_by}
 use Rattle.std.proofs.lemmas.List.Elements.{All-nil, All-cons, All-append}
 use Rattle.std.proofs.lemmas.List.Concat.{flat_map-append}
-use Rattle.mm_lex.specs.LexTokens.{IsName}
-use Rattle.mm_parse.specs.declared.ast.Crate.{Crate}
-use Rattle.mm_parse.specs.Grammar as grammar
+use Rattle.mm_names.specs.Names.{IsName}
+use Rattle.mm_ast.specs.declared.items.Crate.{Crate}
 use Rattle.mm_load.specs.WrittenItem.{path_in, functions_of}
-use Rattle.mm_load.proofs.DefinedLemmas.{defined_text}
-use Rattle.mm_load.proofs.SpelledItems.{crate_named}
-use Rattle.mm_load.proofs.SpelledLemmas.{Spelling}
+use Rattle.mm_load.proofs.DefinedLemmas.{defined_all}
+use Rattle.mm_load.proofs.WrittenItems.{IsFine}
 
 -- one name or more, joined by ::
 pub record IsChain (path : List ℕ) : Type 0 where
@@ -48,7 +46,7 @@ chain_more prefix name chain named = record {
   is = ap (λ path. path_in path name) chain.is ∙ sym (behind chain.names name chain.some);
 }
 
--- in a tree that a text spells
-pub chains : (tree : Crate) → Spelling (grammar.text tree) → All (λ d. IsChain d.path) (functions_of tree)
-chains tree spelling =
-    λ k d within. (defined_text IsChain chain_more tree spelling (chain_one tree.name (crate_named tree spelling)) k d within).0
+-- in a crate that is written and built
+pub chains : (krate : Crate) → IsFine krate → All (λ d. IsChain d.path) (functions_of krate)
+chains krate fine =
+    λ k d within. (defined_all IsChain chain_more krate fine (chain_one krate.name.text fine.written.named) k d within).0

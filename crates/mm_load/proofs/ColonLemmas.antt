@@ -8,8 +8,8 @@ use Rattle.std.proofs.lemmas.List.Elements.{All-cons, All-head, All-tail, All-we
 use Rattle.std.proofs.lemmas.Str.{encodes-chars, encode_ascii, encode_same}
 use Rattle.unicode_ident.specs.Ident.{is_xid_continue}
 use Rattle.unicode_ident.proofs.IdentLemmas.{is_xid_continue-ascii}
-use Rattle.mm_lex.specs.LexTokens.{starts_name, IsNameLike, IsName}
-use Rattle.mm_lex.proofs.LexNameLemmas.{starts_name-ascii}
+use Rattle.mm_names.specs.Names.{starts_name, IsNameLike, IsName}
+use Rattle.mm_names.proofs.NameLemmas.{starts_name-ascii}
 
 abbrev IsOther : ℕ → Type 0
 IsOther c = c ≢ 58

@@ -1,10 +1,9 @@
--- What follows where no position is reported: nothing is reported of any part.
-use Rattle.std.proofs.Common.{◌≡◌, List, [], ◌∷◌, ◌++◌, Bool, true, false, not, Option, None, Some, refl}
+-- What follows where no line is reported: nothing is reported of any part.
+use Rattle.std.proofs.Common.{◌≡◌, ℕ, List, [], ◌∷◌, ◌++◌, Bool, true, false, not, Option, None, Some, refl}
 use Rattle.std.specs.Prelude.{All, is_none}
 use Rattle.std.specs.List.{flat_map}
 use Rattle.std.proofs.lemmas.List.Elements.{All-nil, All-cons, All-head, All-tail}
-use Rattle.mm_lex.specs.declared.token.Position.{Position}
-use Rattle.mm_load.specs.Rules.{position_if}
+use Rattle.mm_load.specs.Rules.{line_if}
 
 pub none_both : {A : Type 0} (xs ys : List A) → xs ++ ys ≡ [] → (xs ≡ []) × (ys ≡ [])
 none_both [] ys h = (refl, h)
@@ -17,17 +16,17 @@ none_each f (x ∷ xs) h =
     All-cons (λ x. f x ≡ []) x xs parts.0 (none_each f xs parts.1)
 
 -- a test that reports nothing fails
-pub none_if : (test : Bool) (at : Position) → position_if test at ≡ [] → test ≡ false
-none_if true at h = cc
-none_if false at h = refl
+pub none_if : (test : Bool) (line : ℕ) → line_if test line ≡ [] → test ≡ false
+none_if true line h = cc
+none_if false line h = refl
 
-pub none_unless : (test : Bool) (at : Position) → position_if (not test) at ≡ [] → test ≡ true
-none_unless true at h = refl
-none_unless false at h = cc
+pub none_unless : (test : Bool) (line : ℕ) → line_if (not test) line ≡ [] → test ≡ true
+none_unless true line h = refl
+none_unless false line h = cc
 
-pub some_of : {A : Type 0} (o : Option A) (at : Position) → position_if (is_none o) at ≡ [] → (x : A) × (o ≡ Some x)
-some_of (Some x) at h = (x, refl)
-some_of None at h = cc
+pub some_of : {A : Type 0} (o : Option A) (line : ℕ) → line_if (is_none o) line ≡ [] → (x : A) × (o ≡ Some x)
+some_of (Some x) line h = (x, refl)
+some_of None line h = cc
 
 -- what holds of each of a list put together holds of each of its parts
 pub all_parts : {X : Type 0} (P : X → Type 0) (xs ys : List X) → All P (xs ++ ys) → All P xs × All P ys

@@ -9,40 +9,45 @@ use Rattle.std.proofs.lemmas.List.{length-map}
 use Rattle.std.proofs.lemmas.List.Elements.{All-nil, All-cons, All-append, All-map}
 use Rattle.std.proofs.lemmas.Option.{slice_get-map, slice_get_cases}
 use Rattle.std.proofs.lemmas.List.Folds.{flat_map-map}
-use Rattle.mm_lex.specs.declared.token.Position.{Position}
 use Rattle.mm_terms.specs.declared.ty_head.TyHead.TheVariants.{Tuple}
 use Rattle.mm_terms.specs.Tree.{node}
 use Rattle.mm_terms.specs.Formed.{IsFormed-node}
 use Rattle.mm_terms.specs.Substitution.{param_of, ParamsBelow, ParamsBelow-node}
 use Rattle.mm_program.specs.declared.program.Program.{Program}
 use Rattle.mm_program.specs.declared.program.Function as made
+use Rattle.mm_program.specs.declared.program.Call as made_call
 use Rattle.mm_program.specs.WellFormed.{NamesNone, NamesNoDefinition, IsTypeUnder, IsPlaceOf, IsLabelOf, IsOperandOf, IsRvalueOf, IsStatementOf, IsCallIn, IsEndIn, IsBlockIn, IsFunctionIn, HasMain}
 use Rattle.mm_program.proofs.PlainLemmas.{plain-node}
-use Rattle.mm_parse.specs.declared.ast.Crate.{Crate}
-use Rattle.mm_parse.specs.declared.ast.Function.{Function}
-use Rattle.mm_parse.specs.declared.ast.Type as written
-use Rattle.mm_parse.specs.declared.ast.Head.{Head}
-use Rattle.mm_parse.specs.declared.ast.Head.TheVariants as heads
-use Rattle.mm_parse.specs.declared.ast.Block.{Block}
-use Rattle.mm_parse.specs.declared.ast.Statement.{Statement}
-use Rattle.mm_parse.specs.declared.ast.Statement.TheVariants as statements
-use Rattle.mm_parse.specs.declared.ast.Rvalue.{Rvalue}
-use Rattle.mm_parse.specs.declared.ast.Rvalue.TheVariants as rvalues
-use Rattle.mm_parse.specs.declared.ast.Operand.{Operand}
-use Rattle.mm_parse.specs.declared.ast.Operand.TheVariants as operands
-use Rattle.mm_parse.specs.declared.ast.Local.{Local}
-use Rattle.mm_parse.specs.declared.ast.Label.{Label}
-use Rattle.mm_parse.specs.declared.ast.Arm.{Arm}
-use Rattle.mm_parse.specs.declared.ast.Switch.{Switch}
-use Rattle.mm_parse.specs.declared.ast.End.{End}
-use Rattle.mm_parse.specs.declared.ast.End.TheVariants as ends
-use Rattle.mm_parse.specs.declared.ast.Call.{Call}
-use Rattle.mm_load.specs.Meaning.{index_in, head_in, type_of, types_of, result_of, place_of_local, operand_of, rvalue_of, statement_of, arm_of, call_of, end_of, block_of, locals_of, function_in, function_of}
+use Rattle.mm_ast.specs.declared.items.Crate.{Crate}
+use Rattle.mm_ast.specs.declared.items.Function.{Function}
+use Rattle.mm_ast.specs.declared.types.Type as written
+use Rattle.mm_ast.specs.declared.types.Head.{Head}
+use Rattle.mm_ast.specs.declared.types.Head.TheVariants as heads
+use Rattle.mm_ast.specs.declared.bodies.Block.{Block}
+use Rattle.mm_ast.specs.declared.bodies.Statement.{Statement}
+use Rattle.mm_ast.specs.declared.bodies.Statement.TheVariants as statements
+use Rattle.mm_ast.specs.declared.bodies.Rvalue.{Rvalue}
+use Rattle.mm_ast.specs.declared.bodies.Rvalue.TheVariants as rvalues
+use Rattle.mm_ast.specs.declared.bodies.Operand.{Operand}
+use Rattle.mm_ast.specs.declared.bodies.Operand.TheVariants as operands
+use Rattle.mm_ast.specs.declared.bodies.Called.{Called}
+use Rattle.mm_ast.specs.declared.bodies.Called.TheVariants as calls
+use Rattle.mm_ast.specs.declared.bodies.Callee.TheVariants as callees
+use Rattle.mm_ast.specs.declared.bodies.Place.{Place}
+use Rattle.mm_ast.specs.declared.names.PathWithArgs.{PathWithArgs}
+use Rattle.mm_ast.specs.declared.bodies.Label.{Label}
+use Rattle.mm_ast.specs.declared.bodies.Arm.{Arm}
+use Rattle.mm_ast.specs.declared.bodies.Switch.{Switch}
+use Rattle.mm_ast.specs.declared.bodies.End.{End}
+use Rattle.mm_ast.specs.declared.bodies.End.TheVariants as ends
+use Rattle.mm_ast.specs.declared.bodies.Call.{Call}
+use Rattle.mm_load.specs.Meaning.{index_in, head_in, type_of, types_of, result_of, place_of, operand_of, rvalue_of, statement_of, arm_of, def_id, callee_in, args_in, call_of, end_of, block_of, locals_of, function_in, function_of}
 use Rattle.mm_load.specs.Names.{Names, index_of, path_named, main_path, names_in}
-use Rattle.mm_load.specs.Rules.{position_if, of_call, unknown_head, unknown_in_type, unknown_in_types, unknown_local, unknown_label, unknown_in_operand, unknown_in_operands, unknown_in_rvalue, unknown_in_statement, unknown_in_statements, unknown_in_arms, unknown_in_switch, unknown_in_call, unknown_in_end, unknown_in_block, unknown_in_blocks, unknown_in_scope, function_at, fits, misfit_call, misfit_block, misfits_in_function, is_bare, bad_main}
+use Rattle.mm_load.specs.Rules.{line_if, of_call, of_named, unknown_head, unknown_in_type, unknown_in_types, unknown_place, unknown_label, unknown_in_operand, unknown_in_operands, unknown_in_rvalue, unknown_in_statement, unknown_in_statements, unknown_in_arms, unknown_in_switch, unknown_named, unknown_in_call, unknown_in_end, unknown_in_block, unknown_in_blocks, unknown_in_scope, function_at, fits, misfit_named, misfit_call, misfit_block, misfits_in_function, is_bare, bad_main}
 use Rattle.mm_load.specs.WrittenItem.{Defined, paths_to}
 use Rattle.mm_load.proofs.TypeViews.{written_node, written_fold-node, written_ind}
-use Rattle.mm_load.proofs.FormedLemmas.{IsFormedType, IsFormedEnd, IsFormedFunction}
+use Rattle.mm_load.specs.WrittenPlace.{local_of}
+use Rattle.mm_load.proofs.FormedLemmas.{IsFormedType, IsFormedCalled, IsFormedEnd, IsFormedFunction}
 use Rattle.mm_load.proofs.KeptLemmas.{none_both, none_each, none_if, none_unless, some_of}
 
 -- ---- how names resolve
@@ -68,36 +73,36 @@ found xs i within = ⊎_elim (λ here. (here.0, here.2)) (λ past. absurd (omega
 -- ---- types
 
 module _ (scope : Names) (n : ℕ) (low : (name : List ℕ) (k : ℕ) → scope name ≡ Some k → k < n) where
-  head_low : (at : Position) (head : Head) → unknown_head scope at head ≡ [] → All (λ i. i < n) (param_of (head_in scope head))
-  head_low at (heads.Param name) none =
-      let is = some_of (scope name) at none in
+  head_low : (line : ℕ) (head : Head) → unknown_head scope line head ≡ [] → All (λ i. i < n) (param_of (head_in scope head))
+  head_low line (heads.Param name) none =
+      let is = some_of (scope name) line none in
       All-cons (λ i. i < n) (index_in scope name) [] (subst (λ o. unwrap_or o 0 < n) (sym is.1) (low name is.0 is.1)) (All-nil (λ i. i < n))
-  head_low at heads.U64 none = All-nil (λ i. i < n)
-  head_low at heads.Bool none = All-nil (λ i. i < n)
-  head_low at heads.Tuple none = All-nil (λ i. i < n)
-  head_low at heads.Ref none = All-nil (λ i. i < n)
-  head_low at heads.Boxed none = All-nil (λ i. i < n)
+  head_low line heads.U64 none = All-nil (λ i. i < n)
+  head_low line heads.Bool none = All-nil (λ i. i < n)
+  head_low line heads.Ref none = All-nil (λ i. i < n)
+  head_low line heads.Boxed none = All-nil (λ i. i < n)
+  head_low line _ none = All-nil (λ i. i < n)
 
   head_plain : (head : Head) → NamesNone (head_in scope head)
   head_plain (heads.Param name) = tt
   head_plain heads.U64 = tt
   head_plain heads.Bool = tt
-  head_plain heads.Tuple = tt
   head_plain heads.Ref = tt
   head_plain heads.Boxed = tt
+  head_plain _ = tt
 
   abbrev Known : written.Type → Type 0
   Known t = unknown_in_type scope t ≡ [] → ParamsBelow n (type_of scope t) × NamesNoDefinition (type_of scope t)
 
-  known_node : (at : Position) (head : Head) (children : List written.Type) → All Known children → Known (written_node at head children)
+  known_node : (line : ℕ) (head : Head) (children : List written.Type) → All Known children → Known (written_node line head children)
   unfolding unknown_in_type type_of
-  known_node at head children each none =
-      let positions = written_fold-node (λ at head below. unknown_head scope at head ++ flat_map (λ positions. positions) below) at head children in
-      let parts = none_both (unknown_head scope at head) (flat_map (λ positions. positions) (map (unknown_in_type scope) children)) (sym positions ∙ none) in
-      let below = none_each (unknown_in_type scope) children (sym (flat_map-map (λ positions. positions) (unknown_in_type scope) children) ∙ parts.1) in
-      let is : type_of scope (written_node at head children) ≡ node (head_in scope head) (map (type_of scope) children) = written_fold-node (λ at head children. node (head_in scope head) children) at head children in (
+  known_node line head children each none =
+      let lines = written_fold-node (λ line head below. unknown_head scope line head ++ flat_map (λ lines. lines) below) line head children in
+      let parts = none_both (unknown_head scope line head) (flat_map (λ lines. lines) (map (unknown_in_type scope) children)) (sym lines ∙ none) in
+      let below = none_each (unknown_in_type scope) children (sym (flat_map-map (λ lines. lines) (unknown_in_type scope) children) ∙ parts.1) in
+      let is : type_of scope (written_node line head children) ≡ node (head_in scope head) (map (type_of scope) children) = written_fold-node (λ line head children. node (head_in scope head) children) line head children in (
         subst (ParamsBelow n) (sym is)
-            (ParamsBelow-node n (head_in scope head) (map (type_of scope) children) (head_low at head parts.0)
+            (ParamsBelow-node n (head_in scope head) (map (type_of scope) children) (head_low line head parts.0)
             (All-map (ParamsBelow n) (type_of scope) children (λ k d within. (each k d within (below k d within)).0))),
         subst NamesNoDefinition (sym is)
             (plain-node (head_in scope head) (map (type_of scope) children) (head_plain head)
@@ -129,23 +134,24 @@ module _ (scope : Names) (n : ℕ) (low : (name : List ℕ) (k : ℕ) → scope 
 
 -- ---- the parts of a body. The function that is made has the locals and the blocks that are written
 
-module _ (w : Function) (f : made.Function) (locals : length f.locals ≡ 1 + (length w.params + length w.lets)) (blocks : length f.blocks ≡ length w.blocks) where
-  known_local : (local : Local) → unknown_local w local ≡ [] → IsPlaceOf f (place_of_local local)
-  known_local local none =
-      let low = ltb-false (length w.params + length w.lets) local.number (none_if (nat_lt (length w.params + length w.lets) local.number) local.at none) in
+module _ (w : Function) (f : made.Function) (locals : length f.locals ≡ 1 + (length w.signature.params + length w.body.lets)) (blocks : length f.blocks ≡ length w.body.blocks) where
+  known_place : (place : Place) → unknown_place w place ≡ [] → IsPlaceOf f (place_of place)
+  known_place place none =
+      let low = ltb-false (length w.signature.params + length w.body.lets) (local_of place) (none_if (nat_lt (length w.signature.params + length w.body.lets) (local_of place)) place.line none) in
       omega (arith, low, locals)
 
   known_label : (label : Label) → unknown_label w label ≡ [] → IsLabelOf f label.number
   known_label label none =
-      let low = ltb-true label.number (length w.blocks) (none_unless (nat_lt label.number (length w.blocks)) label.at none) in
+      let low = ltb-true label.number (length w.body.blocks) (none_unless (nat_lt label.number (length w.body.blocks)) label.line none) in
       omega (arith, low, blocks)
 
   known_operand : (only : Operand) → unknown_in_operand w only ≡ [] → IsOperandOf f (operand_of only)
   unfolding unknown_in_operand operand_of
-  known_operand (operands.Copy local) none = known_local local none
-  known_operand (operands.Move local) none = known_local local none
+  known_operand (operands.Copy place) none = known_place place none
+  known_operand (operands.Move place) none = known_place place none
   known_operand (operands.Number n) none = tt
   known_operand (operands.Bool b) none = tt
+  known_operand _ none = tt
 
   known_operands : (some : List Operand) → unknown_in_operands w some ≡ [] → All (IsOperandOf f) (map operand_of some)
   unfolding unknown_in_operands
@@ -160,12 +166,13 @@ module _ (w : Function) (f : made.Function) (locals : length f.locals ≡ 1 + (l
   known_rvalue (rvalues.Binary op left right) none =
       let parts = none_both (unknown_in_operand w left) (unknown_in_operand w right) none in
       (known_operand left parts.0, known_operand right parts.1)
+  known_rvalue _ none = tt
 
   known_statement : (one : Statement) → unknown_in_statement w one ≡ [] → IsStatementOf f (statement_of one)
   unfolding unknown_in_statement statement_of
-  known_statement (statements.Set local value) none =
-      let parts = none_both (unknown_local w local) (unknown_in_rvalue w value) none in
-      (known_local local parts.0, known_rvalue value parts.1)
+  known_statement (statements.Set place value) none =
+      let parts = none_both (unknown_place w place) (unknown_in_rvalue w value) none in
+      (known_place place parts.0, known_rvalue value parts.1)
   known_statement (statements.Print only) none = known_operand only none
 
   known_statements : (some : List Statement) → unknown_in_statements w some ≡ [] → All (IsStatementOf f) (map statement_of some)
@@ -195,35 +202,47 @@ module _ (w : Function) (f : made.Function) (locals : length f.locals ≡ 1 + (l
         let low = index_low (map (λ d. d.path) functions) path k look_up in
         found functions k (omega (arith, low, length-map functions (λ (d : Defined). d.path)))
 
-    fitting : (call : Call) (k : ℕ) (d : Defined) → paths (path_named call.callee) ≡ Some k → slice_get functions k ≡ Some d → misfit_call paths functions call ≡ [] → fits call d.function ≡ true
-    unfolding misfit_call
-    fitting call k d look_up at none =
-        let is : function_at paths functions (path_named call.callee) ≡ Some d = ap (option_and_then (slice_get functions)) look_up ∙ at in
-        none_unless (fits call d.function) call.callee.at
-        (subst (λ o. option_map_or (λ callee. position_if (not (fits call callee.function)) call.callee.at) o [] ≡ []) is none)
+    fitting : (named : PathWithArgs) (args : List Operand) (k : ℕ) (d : Defined) → paths (path_named named.path) ≡ Some k → slice_get functions k ≡ Some d → misfit_named paths functions args named ≡ [] → fits named args d.function ≡ true
+    unfolding misfit_named
+    fitting named args k d look_up at none =
+        let is : function_at paths functions (path_named named.path) ≡ Some d = ap (option_and_then (slice_get functions)) look_up ∙ at in
+        none_unless (fits named args d.function) named.path.line
+        (subst (λ o. option_map_or (λ callee. line_if (not (fits named args callee.function)) named.path.line) o [] ≡ []) is none)
 
     module _ (scope : Names) (low : (name : List ℕ) (k : ℕ) → scope name ≡ Some k → k < f.type_params) where
-      known_call : (call : Call) → unknown_in_call paths scope w call ≡ [] → misfit_call paths functions call ≡ [] → All IsFormedType call.args → IsCallIn p f (call_of paths scope call)
-      unfolding unknown_in_call call_of function_in types_of
-      known_call call none fit formed =
-          let callee_part : List Position = position_if (is_none (paths (path_named call.callee))) call.callee.at in
-          let e = none_both (unknown_local w call.place ++ callee_part ++ unknown_in_types scope call.args ++ unknown_in_operands w call.operands) (unknown_label w call.target) none in
-          let d = none_both (unknown_local w call.place ++ callee_part ++ unknown_in_types scope call.args) (unknown_in_operands w call.operands) e.0 in
-          let c = none_both (unknown_local w call.place ++ callee_part) (unknown_in_types scope call.args) d.0 in
-          let b = none_both (unknown_local w call.place) callee_part c.0 in
-          let look_up = some_of (paths (path_named call.callee)) call.callee.at b.1 in
-          let callee = resolved (path_named call.callee) look_up.0 look_up.1 in
-          let both = and_parts (nat_eq (length call.args) (length callee.0.function.type_params)) (nat_eq (length call.operands) (length callee.0.function.params)) (fitting call look_up.0 callee.0 look_up.1 callee.1 fit) in
+      -- a function that is named, with these operands
+      known_named : (named : PathWithArgs) (args : List Operand) (made : made_call.Call) → unknown_named paths scope named ≡ [] → misfit_named paths functions args named ≡ [] → All IsFormedType named.args → made.callee ≡ def_id (index_in paths (path_named named.path)) → made.args ≡ types_of scope named.args → made.operands ≡ map operand_of args → All (IsOperandOf f) made.operands → IsPlaceOf f made.place → IsLabelOf f made.target → IsCallIn p f made
+      unfolding unknown_named function_in types_of
+      known_named named args made none fit formed callee_is args_are operands_are operands place target =
+          let parts = none_both (line_if (is_none (paths (path_named named.path))) named.path.line) (unknown_in_types scope named.args) none in
+          let look_up = some_of (paths (path_named named.path)) named.path.line parts.0 in
+          let callee = resolved (path_named named.path) look_up.0 look_up.1 in
+          let both = and_parts (nat_eq (length named.args) (length callee.0.function.type_params)) (nat_eq (length args) (length callee.0.function.signature.params)) (fitting named args look_up.0 callee.0 look_up.1 callee.1 fit) in
           record {
             callee = function_of paths callee.0;
-            named = ap (λ o. slice_get p.functions (unwrap_or o 0)) look_up.1 ∙ named_at look_up.0 callee.0 callee.1;
-            type_args = length-map call.args (type_of scope) ∙ eqb-true (length call.args) (length callee.0.function.type_params) both.0;
-            args = length-map call.operands operand_of ∙ eqb-true (length call.operands) (length callee.0.function.params) both.1;
-            types = types_under scope f.type_params low call.args formed c.1;
-            operands = known_operands call.operands d.1;
-            place = known_local call.place b.0;
-            target = known_label call.target e.1;
+            named = ap (λ id. slice_get p.functions id.0) callee_is ∙ ap (λ o. slice_get p.functions (unwrap_or o 0)) look_up.1 ∙ named_at look_up.0 callee.0 callee.1;
+            type_args = ap length args_are ∙ length-map named.args (type_of scope) ∙ eqb-true (length named.args) (length callee.0.function.type_params) both.0;
+            args = ap length operands_are ∙ length-map args operand_of ∙ eqb-true (length args) (length callee.0.function.signature.params) both.1;
+            types = subst (All (IsTypeUnder f.type_params)) (sym args_are) (types_under scope f.type_params low named.args formed parts.1);
+            operands = operands;
+            place = place;
+            target = target;
           }
+
+      known_called : (call : Call) (called : Called) → call.called ≡ called → unknown_in_call paths scope w call ≡ [] → misfit_call paths functions call ≡ [] → IsFormedCalled called → IsCallIn p f (call_of paths scope call)
+      unfolding unknown_in_call misfit_call call_of
+      known_called call (calls.Callee (callees.Direct named)) is none fit formed =
+          let c = none_both (unknown_place w call.place ++ of_named (unknown_named paths scope) call.called ++ unknown_in_operands w call.operands) (unknown_label w call.target) none in
+          let b = none_both (unknown_place w call.place ++ of_named (unknown_named paths scope) call.called) (unknown_in_operands w call.operands) c.0 in
+          let a = none_both (unknown_place w call.place) (of_named (unknown_named paths scope) call.called) b.0 in
+          known_named named call.operands (call_of paths scope call)
+          (subst (λ called. of_named (unknown_named paths scope) called ≡ []) is a.1)
+          (subst (λ called. of_named (misfit_named paths functions call.operands) called ≡ []) is fit)
+          formed
+          (ap (λ called. def_id (callee_in paths called)) is)
+          (ap (args_in scope) is) refl
+          (known_operands call.operands b.1) (known_place call.place a.0) (known_label call.target c.1)
+      known_called call _ is none fit formed = absurd formed
 
       known_switch : (switch : Switch) → unknown_in_switch w switch ≡ [] → IsEndIn p f (end_of paths scope (ends.Switch switch))
       unfolding unknown_in_switch end_of
@@ -238,7 +257,8 @@ module _ (w : Function) (f : made.Function) (locals : length f.locals ≡ 1 + (l
       known_end ends.Unreachable none fit formed = tt
       known_end (ends.Goto label) none fit formed = known_label label none
       known_end (ends.Switch switch) none fit formed = known_switch switch none
-      known_end (ends.Call call) none fit formed = known_call call none fit formed
+      known_end (ends.Call call) none fit formed = known_called call call.called refl none fit formed
+      known_end (ends.Drop place label) none fit formed = tt
 
       known_block : (block : Block) → unknown_in_block paths scope w block ≡ [] → misfit_block paths functions block ≡ [] → IsFormedEnd block.end → IsBlockIn p f (block_of paths scope block)
       unfolding unknown_in_block misfit_block block_of
@@ -248,10 +268,10 @@ module _ (w : Function) (f : made.Function) (locals : length f.locals ≡ 1 + (l
 
 -- ---- functions
 
-locals_length : (scope : Names) (w : Function) → length (locals_of scope w) ≡ 1 + (length w.params + length w.lets)
+locals_length : (scope : Names) (w : Function) → length (locals_of scope w) ≡ 1 + (length w.signature.params + length w.body.lets)
 unfolding locals_of types_of
 locals_length scope w =
-    omega (arith, length-append (map (type_of scope) w.params) (map (type_of scope) w.lets), length-map w.params (type_of scope), length-map w.lets (type_of scope))
+    omega (arith, length-append (map (type_of scope) w.signature.params) (map (type_of scope) w.body.lets), length-map w.signature.params (type_of scope), length-map w.body.lets (type_of scope))
 
 module _ (p : Program) (functions : List Defined) (are : p.functions ≡ map (function_of (paths_to functions)) functions) where
   abbrev look_up : Names
@@ -266,13 +286,13 @@ module _ (p : Program) (functions : List Defined) (are : p.functions ≡ map (fu
         let f : made.Function = function_of look_up d in
         let low : (name : List ℕ) (k : ℕ) → scope name ≡ Some k → k < length w.type_params =
         λ name k is. (let inside = index_low (map (λ n. n.text) w.type_params) name k is in omega (arith, inside, length-map w.type_params (λ n. n.text))) in
-        let c = none_both (unknown_in_types scope w.params ++ option_map_or (unknown_in_type scope) w.result [] ++ unknown_in_types scope w.lets) (unknown_in_blocks look_up scope w w.blocks) none in
-        let b = none_both (unknown_in_types scope w.params ++ option_map_or (unknown_in_type scope) w.result []) (unknown_in_types scope w.lets) c.0 in
-        let a = none_both (unknown_in_types scope w.params) (option_map_or (unknown_in_type scope) w.result []) b.0 in
-        let each = none_each (unknown_in_block look_up scope w) w.blocks c.1 in
-        let fitting = none_each (misfit_block look_up functions) w.blocks fit in
-        let many : length f.locals ≡ 1 + (length w.params + length w.lets) = locals_length scope w in
-        let blocks : length f.blocks ≡ length w.blocks = length-map w.blocks (block_of look_up scope) in
+        let c = none_both (unknown_in_types scope w.signature.params ++ option_map_or (unknown_in_type scope) w.signature.result [] ++ unknown_in_types scope w.body.lets) (unknown_in_blocks look_up scope w w.body.blocks) none in
+        let b = none_both (unknown_in_types scope w.signature.params ++ option_map_or (unknown_in_type scope) w.signature.result []) (unknown_in_types scope w.body.lets) c.0 in
+        let a = none_both (unknown_in_types scope w.signature.params) (option_map_or (unknown_in_type scope) w.signature.result []) b.0 in
+        let each = none_each (unknown_in_block look_up scope w) w.body.blocks c.1 in
+        let fitting = none_each (misfit_block look_up functions) w.body.blocks fit in
+        let many : length f.locals ≡ 1 + (length w.signature.params + length w.body.lets) = locals_length scope w in
+        let blocks : length f.blocks ≡ length w.body.blocks = length-map w.body.blocks (block_of look_up scope) in
         let few_locals = formed.few_locals in
         let some_block = formed.some_block in
         let few_blocks = formed.few_blocks in
@@ -280,40 +300,40 @@ module _ (p : Program) (functions : List Defined) (are : p.functions ≡ map (fu
           locals = omega (arith, many);
           few_locals = omega (arith, many, few_locals);
           types =
-              All-cons (IsTypeUnder (length w.type_params)) (result_of scope w.result) (types_of scope w.params ++ types_of scope w.lets)
-              (result_under scope (length w.type_params) low w.result formed.result a.1)
-              (All-append (IsTypeUnder (length w.type_params)) (types_of scope w.params) (types_of scope w.lets)
-              (types_under scope (length w.type_params) low w.params formed.params a.0)
-              (types_under scope (length w.type_params) low w.lets formed.lets b.1));
+              All-cons (IsTypeUnder (length w.type_params)) (result_of scope w.signature.result) (types_of scope w.signature.params ++ types_of scope w.body.lets)
+              (result_under scope (length w.type_params) low w.signature.result formed.result a.1)
+              (All-append (IsTypeUnder (length w.type_params)) (types_of scope w.signature.params) (types_of scope w.body.lets)
+              (types_under scope (length w.type_params) low w.signature.params formed.params a.0)
+              (types_under scope (length w.type_params) low w.body.lets formed.lets b.1));
           some_block = omega (arith, blocks, some_block);
           few_blocks = omega (arith, blocks, few_blocks);
           blocks =
-              All-map (IsBlockIn p f) (block_of look_up scope) w.blocks
-              (λ k d within. known_block w f many blocks p functions are scope low (get_or w.blocks k d) (each k d within) (fitting k d within) (formed.blocks k d within));
+              All-map (IsBlockIn p f) (block_of look_up scope) w.body.blocks
+              (λ k d within. known_block w f many blocks p functions are scope low (get_or w.body.blocks k d) (each k d within) (fitting k d within) (formed.blocks k d within));
         }
 
   -- ---- main
 
-  kept_some : {X : Type 0} (g : X → List Position) (o : Option X) (at : Position) → option_map_or g o (at ∷ []) ≡ [] → (x : X) × (o ≡ Some x) × (g x ≡ [])
-  kept_some g None at h = cc
-  kept_some g (Some x) at h = (x, refl, h)
+  kept_some : {X : Type 0} (g : X → List ℕ) (o : Option X) (line : ℕ) → option_map_or g o (line ∷ []) ≡ [] → (x : X) × (o ≡ Some x) × (g x ≡ [])
+  kept_some g None line h = cc
+  kept_some g (Some x) line h = (x, refl, h)
 
   looked_up : (o : Option ℕ) (d : Defined) → option_and_then (slice_get functions) o ≡ Some d → (k : ℕ) × (o ≡ Some k) × (slice_get functions k ≡ Some d)
   looked_up None d h = cc
   looked_up (Some k) d h = (k, refl, h)
 
-  pub known_main : (tree : Crate) → bad_main look_up functions tree ≡ [] → p.main.0 ≡ index_in look_up (main_path tree.name) → HasMain p
+  pub known_main : (krate : Crate) → bad_main look_up functions krate ≡ [] → p.main.0 ≡ index_in look_up (main_path krate.name.text) → HasMain p
   unfolding bad_main function_in
-  known_main tree none main =
-      let kept = kept_some (λ main. position_if (not (is_bare main.function)) main.at) (function_at look_up functions (main_path tree.name)) tree.at none in
+  known_main krate none main =
+      let kept = kept_some (λ main. line_if (not (is_bare main.function)) main.line) (function_at look_up functions (main_path krate.name.text)) krate.line none in
       let d : Defined = kept.0 in
-      let at = looked_up (look_up (main_path tree.name)) d kept.1 in
-      let bare = and_parts (nat_eq (length d.function.type_params) 0) (nat_eq (length d.function.params) 0) (none_unless (is_bare d.function) d.at kept.2) in
+      let at = looked_up (look_up (main_path krate.name.text)) d kept.1 in
+      let bare = and_parts (nat_eq (length d.function.type_params) 0) (nat_eq (length d.function.signature.params) 0) (none_unless (is_bare d.function) d.line kept.2) in
       record {
         main = function_of look_up d;
         named =
             ap (slice_get p.functions) (main ∙ ap (λ o. unwrap_or o 0) at.1)
             ∙ ap (λ fs. slice_get fs at.0) are ∙ slice_get-map (function_of look_up) functions at.0 ∙ ap (option_map (function_of look_up)) at.2;
         no_type_params = eqb-true (length d.function.type_params) 0 bare.0;
-        no_params = eqb-true (length d.function.params) 0 bare.1;
+        no_params = eqb-true (length d.function.signature.params) 0 bare.1;
       }

@@ -1,5 +1,6 @@
 pub mod ApartLemmas
 pub mod AskingLemmas
+pub mod BuiltLemmas
 pub mod ChainLemmas
 pub mod ColonLemmas
 pub mod DefinedLemmas
@@ -13,8 +14,7 @@ pub mod KeptLemmas
 pub mod KnownLemmas
 pub mod MemberLemmas
 pub mod PathLemmas
-pub mod SpelledItems
-pub mod SpelledLemmas
 pub mod TypeViews
 pub mod WellFormedLemmas
+pub mod WrittenItems
 pub mod WrittenLemmas

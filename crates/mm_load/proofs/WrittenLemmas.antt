@@ -8,20 +8,20 @@ use Rattle.mm_load.specs.Meaning.{head_in, type_of}
 use Rattle.mm_load.specs.declared.rule.Rule.{Rule}
 use Rattle.mm_load.specs.declared.load_error.LoadError.{LoadError}
 use Rattle.mm_load.specs.Asking.{Reports}
-use Rattle.mm_parse.specs.declared.ast.Type as written
+use Rattle.mm_ast.specs.declared.types.Type as written
 use Rattle.mm_load.specs.Names.{Names}
 use Rattle.mm_load.specs.Rules.{unknown_head, unknown_in_type, type_length}
-use Rattle.mm_load.specs.WrittenType.{at_of}
+use Rattle.mm_load.specs.WrittenType.{line_of}
 use Rattle.mm_load.proofs.TypeViews.{head_of, children_of, written_fold-parts}
 
-pub unknown_in_type-parts : (scope : Names) (t : written.Type) → unknown_in_type scope t ≡ unknown_head scope (at_of t) (head_of t) ++ flat_map (unknown_in_type scope) (children_of t)
+pub unknown_in_type-parts : (scope : Names) (t : written.Type) → unknown_in_type scope t ≡ unknown_head scope (line_of t) (head_of t) ++ flat_map (unknown_in_type scope) (children_of t)
 unfolding unknown_in_type
 unknown_in_type-parts scope t =
-    written_fold-parts (λ at head below. unknown_head scope at head ++ flat_map (λ positions. positions) below) t
-    ∙ ap (λ ps. unknown_head scope (at_of t) (head_of t) ++ ps) (flat_map-map (λ positions. positions) (unknown_in_type scope) (children_of t))
+    written_fold-parts (λ at head below. unknown_head scope at head ++ flat_map (λ lines. lines) below) t
+    ∙ ap (λ ps. unknown_head scope (line_of t) (head_of t) ++ ps) (flat_map-map (λ lines. lines) (unknown_in_type scope) (children_of t))
 
 -- what is reported of the head and the types below it is reported of the type
-pub reports_in_type : (rule : Rule) (scope : Names) (t : written.Type) (r : Result (Unit {0}) LoadError) → Reports rule (unknown_head scope (at_of t) (head_of t) ++ flat_map (unknown_in_type scope) (children_of t)) r → Reports rule (unknown_in_type scope t) r
+pub reports_in_type : (rule : Rule) (scope : Names) (t : written.Type) (r : Result (Unit {0}) LoadError) → Reports rule (unknown_head scope (line_of t) (head_of t) ++ flat_map (unknown_in_type scope) (children_of t)) r → Reports rule (unknown_in_type scope t) r
 reports_in_type rule scope t r reports = subst (λ ps. Reports rule ps r) (sym (unknown_in_type-parts scope t)) reports
 
 -- the head counts one, and each type below it its own length

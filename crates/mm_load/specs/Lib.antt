@@ -1,7 +1,9 @@
 pub mod Asking
+pub mod Built
 pub mod Meaning
 pub mod Names
 pub mod Rules
 pub mod Seen
 pub mod WrittenItem
+pub mod WrittenPlace
 pub mod WrittenType

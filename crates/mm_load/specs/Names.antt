@@ -4,8 +4,8 @@ use Rattle.std.specs.Option.{option_map}
 use Rattle.std.specs.Str.{bytes_eq}
 use Rattle.indexmap.specs.IndexMap.{IndexMap, get_by}
 use denote.Ref.{Bor}
-use Rattle.mm_parse.specs.declared.ast.Function.{Function}
-use Rattle.mm_parse.specs.declared.ast.Path.{Path}
+use Rattle.mm_ast.specs.declared.items.Function.{Function}
+use Rattle.mm_ast.specs.declared.names.Path.{Path}
 
 -- the index to which each name resolves, from 0; some resolve to nothing
 abbrev pub Names : Type 0

@@ -3,4 +3,4 @@ use Rattle.mm_load.specs.declared.functions.Defined as defined
 use Rattle.mm_load.specs.WrittenItem.{Defined}
 
 abbrev pub function_seen : defined.Defined → Defined
-function_seen d = record { path = d.path; at = d.at; function = d.function.now }
+function_seen d = record { path = d.path; line = d.line; is_pub = d.is_pub; function = d.function.now }

@@ -1,33 +1,35 @@
 //! The blocks of a program, made of those of its tree.
 ghost use Rattle.std.specs.Prelude.{◌≡◌, map, IfOk};
-ghost use Rattle.mm_load.specs.Meaning.{place_of_local, operand_of, op_of, rvalue_of, statement_of, arm_of, call_of, end_of, block_of};
+ghost use Rattle.mm_load.specs.Meaning.{place_of, operand_of, op_of, rvalue_of, statement_of, arm_of, def_id, callee_in, args_in, call_of, end_of, block_of};
 ghost use Rattle.mm_load.specs.Names.{look_up};
 
 use crate::name_table::{NameTable, path_text};
+use crate::places::local_of;
 use crate::types::{index_in, load_types};
-use mm_parse::ast;
+use mm_ast as ast;
 use mm_program::{Arm, Block, Call, End, Op, Operand, Place, Rvalue, Statement};
-use mm_terms::{DefId, NoMemory};
+use mm_terms::{DefId, NoMemory, Tys};
 use sqlite_items::Items;
 use std::alloc::Global;
 
-fn load_place(local: ast::Local) -> Place
-    ensures { result ≡ place_of_local local }
+fn load_place(place: &ast::Place) -> Place
+    ensures { result ≡ place_of place.now }
 {
     Place {
-        local: local.number,
+        local: local_of(place),
     }
 }
 
 #[tactic(auto, unfolding(crate::specs::Meaning::operand_of))]
-fn load_operand(operand: ast::Operand) -> Operand
-    ensures { result ≡ operand_of operand }
+fn load_operand(operand: &ast::Operand) -> Operand
+    ensures { result ≡ operand_of operand.now }
 {
     match operand {
-        ast::Operand::Copy(local) => Operand::Copy(load_place(local)),
-        ast::Operand::Move(local) => Operand::Move(load_place(local)),
-        ast::Operand::Number(number) => Operand::Num(number),
-        ast::Operand::Bool(truth) => Operand::Truth(truth),
+        ast::Operand::Copy(place) => Operand::Copy(load_place(place)),
+        ast::Operand::Move(place) => Operand::Move(load_place(place)),
+        ast::Operand::Number(number) => Operand::Num(*number),
+        ast::Operand::Bool(truth) => Operand::Truth(*truth),
+        ast::Operand::Const(_) | ast::Operand::Fn(_) => Operand::Num(0),
     }
 }
 
@@ -36,7 +38,7 @@ fn load_operands(alloc: Global, operands: &[ast::Operand]) -> Result<Items<Opera
 {
     let mut loaded = Items::new(alloc);
     for operand in operands {
-        loaded.push(load_operand(*operand))?;
+        loaded.push(load_operand(operand))?;
     }
     Ok(loaded)
 }
@@ -61,11 +63,17 @@ fn load_rvalue(rvalue: &ast::Rvalue) -> Rvalue
     ensures { result ≡ rvalue_of rvalue.now }
 {
     match rvalue {
-        ast::Rvalue::Use(operand) => Rvalue::Use(load_operand(*operand)),
-        ast::Rvalue::Not(operand) => Rvalue::Not(load_operand(*operand)),
+        ast::Rvalue::Use(operand) => Rvalue::Use(load_operand(operand)),
+        ast::Rvalue::Not(operand) => Rvalue::Not(load_operand(operand)),
         ast::Rvalue::Binary(op, left, right) => {
-            Rvalue::Binary(load_op(*op), load_operand(*left), load_operand(*right))
+            Rvalue::Binary(load_op(*op), load_operand(left), load_operand(right))
         }
+        ast::Rvalue::Ref(_)
+        | ast::Rvalue::Variant(_)
+        | ast::Rvalue::Boxed(_)
+        | ast::Rvalue::Tuple(_)
+        | ast::Rvalue::New(_)
+        | ast::Rvalue::Dyn(_, _, _) => Rvalue::Use(Operand::Num(0)),
     }
 }
 
@@ -74,10 +82,10 @@ fn load_statement(statement: &ast::Statement) -> Statement
     ensures { result ≡ statement_of statement.now }
 {
     match statement {
-        ast::Statement::Set(local, rvalue) => {
-            Statement::Set(load_place(*local), load_rvalue(rvalue))
+        ast::Statement::Set(place, rvalue) => {
+            Statement::Set(load_place(place), load_rvalue(rvalue))
         }
-        ast::Statement::Print(operand) => Statement::Print(load_operand(*operand)),
+        ast::Statement::Print(operand) => Statement::Print(load_operand(operand)),
     }
 }
 
@@ -114,6 +122,39 @@ fn load_arms(alloc: Global, arms: &[ast::Arm]) -> Result<Items<Arm>, NoMemory>
     Ok(loaded)
 }
 
+/// The number of the function that is called.
+fn load_callee(
+    alloc: Global,
+    paths: &NameTable<'_>,
+    called: &ast::Called,
+) -> Result<DefId, NoMemory>
+    ensures { IfOk result (λ callee. callee ≡ def_id (callee_in (look_up paths.now) called.now)) }
+{
+    match called {
+        ast::Called::Callee(ast::Callee::Direct(named)) => {
+            let path = path_text(alloc, &named.path)?;
+            Ok(DefId(index_in(paths, path.as_slice())))
+        }
+        ast::Called::Callee(ast::Callee::Method(_))
+        | ast::Called::Callee(ast::Callee::Call(_))
+        | ast::Called::Pointer(_) => Ok(DefId(0)),
+    }
+}
+
+/// Its type arguments.
+fn load_args(alloc: Global, scope: &NameTable<'_>, called: &ast::Called) -> Result<Tys, NoMemory>
+    ensures { IfOk result (λ tys. tys ≡ args_in (look_up scope.now) called.now) }
+{
+    match called {
+        ast::Called::Callee(ast::Callee::Direct(named)) => {
+            load_types(alloc, scope, named.args.as_slice())
+        }
+        ast::Called::Callee(ast::Callee::Method(_))
+        | ast::Called::Callee(ast::Callee::Call(_))
+        | ast::Called::Pointer(_) => Ok(Tys::new(alloc)),
+    }
+}
+
 #[tactic(auto, unfolding(crate::specs::Meaning::call_of))]
 fn load_call(
     alloc: Global,
@@ -123,11 +164,10 @@ fn load_call(
 ) -> Result<Call, NoMemory>
     ensures { IfOk result (λ c. c ≡ call_of (look_up paths.now) (look_up scope.now) call.now) }
 {
-    let path = path_text(alloc, &call.callee)?;
     Ok(Call {
-        place: load_place(call.place),
-        callee: DefId(index_in(paths, path.as_slice())),
-        args: load_types(alloc, scope, call.args.as_slice())?,
+        place: load_place(&call.place),
+        callee: load_callee(alloc, paths, &call.called)?,
+        args: load_args(alloc, scope, &call.called)?,
         operands: load_operands(alloc, call.operands.as_slice())?,
         target: call.target.number,
     })
@@ -144,14 +184,14 @@ fn load_end(
 {
     match end {
         ast::End::Return => Ok(End::Return),
-        ast::End::Unreachable => Ok(End::Unreachable),
         ast::End::Goto(label) => Ok(End::Goto(label.number)),
         ast::End::Switch(switch) => {
-            let operand = load_operand(switch.operand);
+            let operand = load_operand(&switch.operand);
             let arms = load_arms(alloc, switch.arms.as_slice())?;
             Ok(End::Switch(operand, arms, switch.otherwise.number))
         }
         ast::End::Call(call) => Ok(End::Call(load_call(alloc, paths, scope, call)?)),
+        ast::End::Unreachable | ast::End::Drop(_, _) => Ok(End::Unreachable),
     }
 }
 

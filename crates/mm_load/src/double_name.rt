@@ -2,26 +2,31 @@
 ghost use Rattle.std.specs.Prelude.{◌≡◌, [], ◌∷◌, ◌++◌, map, OnOk};
 ghost use Rattle.mm_load.specs.Asking.{Reports};
 ghost use Rattle.mm_load.specs.Rules.{again, repeated, repeated_in, member_of, double_in_items};
+ghost use Rattle.mm_load.specs.WrittenItem.{name_of};
 ghost use Rattle.mm_load.specs.declared.rule.Rule.TheVariants.{DoubleName};
 
+use crate::item_names::{name_line, name_text};
 use crate::load_error::{LoadError, fault_if};
 use crate::rule::Rule;
 use indexmap::IndexSet;
-use mm_lex::Position;
-use mm_parse::ast;
+use mm_ast as ast;
 use std::alloc::Global;
 
 /// Adds a name to those that were seen.
-fn check_name<'a>(
-    seen: &mut IndexSet<&'a [u8]>,
-    name: &'a [u8],
-    at: Position,
-) -> Result<(), LoadError>
-    ensures answer { Reports DoubleName (again (map (λ k. k.now) seen.old.keys) name.now at) result }
+fn check_name<'a>(seen: &mut IndexSet<&'a [u8]>, name: &'a [u8], line: u32) -> Result<(), LoadError>
+    ensures answer { Reports DoubleName (again (map (λ k. k.now) seen.old.keys) name.now line) result }
     ensures seen { OnOk result (map (λ k. k.now) seen.new.keys ≡ map (λ k. k.now) seen.old.keys ++ name.now ∷ []) }
 {
     let (_, is_new) = seen.insert_full(name)?;
-    fault_if(!is_new, Rule::DoubleName, at)
+    fault_if(!is_new, Rule::DoubleName, line)
+}
+
+/// Adds the name of an item to those that were seen.
+fn check_item_name<'a>(seen: &mut IndexSet<&'a [u8]>, item: &'a ast::Item) -> Result<(), LoadError>
+    ensures answer { Reports DoubleName (again (map (λ k. k.now) seen.old.keys) (name_of item.now).text (name_of item.now).line) result }
+    ensures seen { OnOk result (map (λ k. k.now) seen.new.keys ≡ map (λ k. k.now) seen.old.keys ++ (name_of item.now).text ∷ []) }
+{
+    check_name(seen, name_text(&item.form), name_line(&item.form))
 }
 
 /// Asks whether these names differ.
@@ -30,20 +35,23 @@ fn check_names(alloc: Global, names: &[ast::Name]) -> Result<(), LoadError>
 {
     let mut seen = IndexSet::new(alloc);
     for name in names {
-        check_name(&mut seen, name.text.as_slice(), name.at)?;
+        check_name(&mut seen, name.text.as_slice(), name.line)?;
     }
     Ok(())
 }
 
 /// Asks whether the type parameters of a function differ.
 #[tactic(auto, unfolding(crate::specs::Rules::repeated_in))]
-fn check_form(alloc: Global, form: &ast::Form) -> Result<(), LoadError>
+fn check_form(alloc: Global, form: &ast::ItemForm) -> Result<(), LoadError>
     ensures { Reports DoubleName (repeated_in form.now) result }
 {
-    match form {
-        ast::Form::Module => Ok(()),
-        ast::Form::Function(function) => check_names(alloc, function.type_params.as_slice()),
-    }
+    let ast::ItemForm::Definition(definition) = form else {
+        return Ok(());
+    };
+    let ast::DefinitionForm::Function(function) = &definition.form else {
+        return Ok(());
+    };
+    check_names(alloc, function.type_params.as_slice())
 }
 
 /// Asks whether the names inside an item differ: those of the type parameters of a function, and those of the items of
@@ -54,7 +62,7 @@ fn check_inside(alloc: Global, item: &ast::Item) -> Result<(), LoadError>
     check_form(alloc, &item.form)?;
     let mut seen = IndexSet::new(alloc);
     for inner in item.items.as_slice() {
-        check_name(&mut seen, inner.name.text.as_slice(), inner.name.at)?;
+        check_item_name(&mut seen, inner)?;
         check_inside(alloc, inner)?;
     }
     Ok(())
@@ -66,7 +74,7 @@ pub fn check(alloc: Global, items: &[ast::Item]) -> Result<(), LoadError>
 {
     let mut seen = IndexSet::new(alloc);
     for item in items {
-        check_name(&mut seen, item.name.text.as_slice(), item.name.at)?;
+        check_item_name(&mut seen, item)?;
         check_inside(alloc, item)?;
     }
     Ok(())

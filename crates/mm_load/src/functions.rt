@@ -3,8 +3,8 @@ ghost use Rattle.std.specs.Prelude.{◌≡◌, ◌++◌, map, IfOk, OnOk};
 ghost use Rattle.mm_load.specs.Seen.{function_seen};
 ghost use Rattle.mm_load.specs.WrittenItem.{defined_by, functions_in, functions_of, path_in};
 
-use mm_lex::Position;
-use mm_parse::ast;
+use crate::item_names::name_text;
+use mm_ast as ast;
 use mm_terms::{NoMemory, Text};
 use std::alloc::Global;
 
@@ -13,8 +13,9 @@ use std::alloc::Global;
 pub struct Defined<'a> {
     /// The crate's name, the modules' names and the function's own name, separated by `::`.
     pub path: Text,
-    /// The position of its first token.
-    pub at: Position,
+    /// The line of its first token.
+    pub line: u32,
+    pub is_pub: bool,
     pub function: &'a ast::Function,
 }
 
@@ -32,17 +33,26 @@ pub fn path_in(alloc: Global, prefix: &[u8], name: &[u8]) -> Result<Text, NoMemo
 fn add_function<'a>(
     alloc: Global,
     path: &[u8],
-    at: Position,
-    form: &'a ast::Form,
+    line: u32,
+    form: &'a ast::ItemForm,
     functions: &mut Vec<Defined<'a>>,
 ) -> Result<(), NoMemory>
-    ensures { OnOk result (map function_seen functions.new.items ≡ map function_seen functions.old.items ++ defined_by path.now at form.now) }
+    ensures { OnOk result (map function_seen functions.new.items ≡ map function_seen functions.old.items ++ defined_by path.now line form.now) }
 {
-    let ast::Form::Function(function) = form else {
+    let ast::ItemForm::Definition(definition) = form else {
+        return Ok(());
+    };
+    let ast::DefinitionForm::Function(function) = &definition.form else {
         return Ok(());
     };
     let path = Text::from_slice(alloc, path)?;
-    functions.push(Defined { path, at, function })?;
+    let is_pub = definition.is_pub;
+    functions.push(Defined {
+        path,
+        line,
+        is_pub,
+        function,
+    })?;
     Ok(())
 }
 
@@ -55,8 +65,8 @@ fn add_functions<'a>(
 ) -> Result<(), NoMemory>
     ensures { OnOk result (map function_seen functions.new.items ≡ map function_seen functions.old.items ++ functions_in item.now prefix.now) }
 {
-    let path = path_in(alloc, prefix, item.name.text.as_slice())?;
-    add_function(alloc, path.as_slice(), item.at, &item.form, functions)?;
+    let path = path_in(alloc, prefix, name_text(&item.form))?;
+    add_function(alloc, path.as_slice(), item.line, &item.form, functions)?;
     for inner in item.items.as_slice() {
         add_functions(alloc, path.as_slice(), inner, functions)?;
     }
@@ -65,12 +75,12 @@ fn add_functions<'a>(
 
 /// The functions of a crate.
 #[tactic(auto, unfolding(crate::specs::WrittenItem::functions_of))]
-pub fn functions<'a>(alloc: Global, tree: &'a ast::Crate) -> Result<Vec<Defined<'a>>, NoMemory>
-    ensures { IfOk result (λ functions. map function_seen functions.items ≡ functions_of tree.now) }
+pub fn functions<'a>(alloc: Global, krate: &'a ast::Crate) -> Result<Vec<Defined<'a>>, NoMemory>
+    ensures { IfOk result (λ functions. map function_seen functions.items ≡ functions_of krate.now) }
 {
     let mut functions = Vec::new(alloc);
-    for item in tree.items.as_slice() {
-        add_functions(alloc, tree.name.as_slice(), item, &mut functions)?;
+    for item in krate.items.as_slice() {
+        add_functions(alloc, krate.name.text.as_slice(), item, &mut functions)?;
     }
     Ok(functions)
 }

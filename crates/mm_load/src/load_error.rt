@@ -1,15 +1,16 @@
 ghost use Rattle.mm_load.specs.Asking.{Reports};
-ghost use Rattle.mm_load.specs.Rules.{position_if};
+ghost use Rattle.mm_load.specs.Rules.{line_if};
 
 use crate::rule;
-use mm_lex::{Position, TextError};
 use std::alloc::{AllocError, AllocFailed};
 
 /// Why a tree is not loaded.
 #[derive(Clone, Copy, PartialEq, Eq)]
 pub enum LoadError {
-    /// A rule fails, and this is the first position of the first one that does.
-    Rule(rule::Rule, Position),
+    /// A rule fails, and this is the first line of the first one that does.
+    Rule(rule::Rule, u32),
+    /// The tree has a form that is not built yet.
+    NotBuilt,
     NoMemory,
 }
 
@@ -35,26 +36,12 @@ impl<T: Drop> From<AllocFailed<T>> for LoadError {
     }
 }
 
-impl From<LoadError> for TextError {
-    ghost use Rattle.std.specs.Prelude.{◌≡◌};
-    ghost use Rattle.mm_load.specs.Asking.{refusal_of};
-
-    ghost from_gives = { λ e t. t ≡ refusal_of e };
-
-    fn from(error: LoadError) -> TextError {
-        match error {
-            LoadError::Rule(_, _) => TextError::BadText,
-            LoadError::NoMemory => TextError::NoMemory,
-        }
-    }
-}
-
-/// Answers that the rule fails at this position, where it does.
-pub fn fault_if(fails: bool, rule: rule::Rule, at: Position) -> Result<(), LoadError>
-    ensures { Reports rule (position_if fails at) result }
+/// Answers that the rule fails on this line, where it does.
+pub fn fault_if(fails: bool, rule: rule::Rule, line: u32) -> Result<(), LoadError>
+    ensures { Reports rule (line_if fails line) result }
 {
     if fails {
-        return Err(LoadError::Rule(rule, at));
+        return Err(LoadError::Rule(rule, line));
     }
     Ok(())
 }

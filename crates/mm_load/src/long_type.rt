@@ -2,14 +2,14 @@
 ghost use Rattle.std.specs.Option.{option_map_or, SomeIff};
 ghost use Rattle.std.specs.Prelude.{[], ◌≤◌, ◌-◌, map};
 ghost use Rattle.mm_load.specs.Asking.{Reports};
-ghost use Rattle.mm_load.specs.Rules.{type_length, long_type, long_types, long_in_block, long_in_blocks, long_in_function, long_in_functions};
+ghost use Rattle.mm_load.specs.Rules.{type_length, long_type, long_types, long_in_call, long_in_block, long_in_blocks, long_in_function, long_in_functions};
 ghost use Rattle.mm_load.specs.Seen.{function_seen};
 ghost use Rattle.mm_load.specs.declared.rule.Rule.TheVariants.{LongType};
 
 use crate::functions::Defined;
 use crate::load_error::{LoadError, fault_if};
 use crate::rule::Rule;
-use mm_parse::ast;
+use mm_ast as ast;
 
 /// The greatest number of constructors in a written type.
 const LONGEST: u32 = 2_048;
@@ -30,7 +30,7 @@ fn check_type(ty: &ast::Type) -> Result<(), LoadError>
     ensures { Reports LongType (long_type ty.now) result }
 {
     let room = room_after(ty, LONGEST);
-    fault_if(room.is_none(), Rule::LongType, ty.at)
+    fault_if(room.is_none(), Rule::LongType, ty.line)
 }
 
 #[tactic(auto, unfolding(crate::specs::Rules::long_types), using(crate::proofs::AskingLemmas::fault_more))]
@@ -52,12 +52,24 @@ fn check_result(ty: &Option<ast::Type>) -> Result<(), LoadError>
     }
 }
 
+#[tactic(auto, unfolding(crate::specs::Rules::long_in_call))]
+fn check_call(call: &ast::Call) -> Result<(), LoadError>
+    ensures { Reports LongType (long_in_call call.now) result }
+{
+    match &call.called {
+        ast::Called::Callee(ast::Callee::Direct(named)) => check_types(named.args.as_slice()),
+        ast::Called::Callee(ast::Callee::Method(_))
+        | ast::Called::Callee(ast::Callee::Call(_))
+        | ast::Called::Pointer(_) => Ok(()),
+    }
+}
+
 #[tactic(auto, unfolding(crate::specs::Rules::long_in_block), using(crate::proofs::AskingLemmas::no_call))]
 fn check_block(block: &ast::Block) -> Result<(), LoadError>
     ensures { Reports LongType (long_in_block block.now) result }
 {
     if let ast::End::Call(call) = &block.end {
-        return check_types(call.args.as_slice());
+        return check_call(call);
     }
     Ok(())
 }
@@ -76,10 +88,10 @@ fn check_blocks(blocks: &[ast::Block]) -> Result<(), LoadError>
 fn check_function(function: &ast::Function) -> Result<(), LoadError>
     ensures { Reports LongType (long_in_function function.now) result }
 {
-    check_types(function.params.as_slice())?;
-    check_result(&function.result)?;
-    check_types(function.lets.as_slice())?;
-    check_blocks(function.blocks.as_slice())
+    check_types(function.signature.params.as_slice())?;
+    check_result(&function.signature.result)?;
+    check_types(function.body.lets.as_slice())?;
+    check_blocks(function.body.blocks.as_slice())
 }
 
 /// Asks whether each written type of these functions is short enough.

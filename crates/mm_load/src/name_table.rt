@@ -8,7 +8,7 @@ ghost use Rattle.mm_load.specs.WrittenItem.{paths_to};
 
 use crate::functions::Defined;
 use indexmap::IndexMap;
-use mm_parse::ast;
+use mm_ast as ast;
 use mm_terms::NoMemory;
 use std::alloc::Global;
 

@@ -8,7 +8,7 @@ use crate::bodies::load_blocks;
 use crate::functions::{Defined, path_in};
 use crate::name_table::{NameTable, type_param_table};
 use crate::types::{add_types, index_in, load_result};
-use mm_parse::ast;
+use mm_ast as ast;
 use mm_program::{Function, Program};
 use mm_terms::{DefId, NoMemory, Text, Tys};
 use sqlite_items::Items;
@@ -24,9 +24,14 @@ fn load_locals(
     ensures { IfOk result (λ tys. tys ≡ locals_of (look_up scope.now) function.now) }
 {
     let mut locals = Tys::new(alloc);
-    locals.push(load_result(alloc, scope, &function.result)?)?;
-    add_types(alloc, scope, function.params.as_slice(), &mut locals)?;
-    add_types(alloc, scope, function.lets.as_slice(), &mut locals)?;
+    locals.push(load_result(alloc, scope, &function.signature.result)?)?;
+    add_types(
+        alloc,
+        scope,
+        function.signature.params.as_slice(),
+        &mut locals,
+    )?;
+    add_types(alloc, scope, function.body.lets.as_slice(), &mut locals)?;
     Ok(locals)
 }
 
@@ -43,16 +48,16 @@ fn load_in_scope(
     let Ok(type_params) = u32::try_from(function.type_params.len()) else {
         return Err(NoMemory);
     };
-    let Ok(params) = u32::try_from(function.params.len()) else {
+    let Ok(params) = u32::try_from(function.signature.params.len()) else {
         return Err(NoMemory);
     };
     Ok(Function {
-        is_pub: function.is_pub,
+        is_pub: defined.is_pub,
         path: Text::from_slice(alloc, defined.path.as_slice())?,
         type_params,
         params,
         locals: load_locals(alloc, scope, function)?,
-        blocks: load_blocks(alloc, paths, scope, function.blocks.as_slice())?,
+        blocks: load_blocks(alloc, paths, scope, function.body.blocks.as_slice())?,
     })
 }
 
@@ -81,19 +86,19 @@ fn load_functions(
     Ok(loaded)
 }
 
-/// The program of a tree, with each name replaced by the index to which it resolves.
+/// The program of a crate, with each name replaced by the index to which it resolves.
 #[tactic(auto, unfolding(crate::specs::Meaning::program_in))]
 pub fn load_program(
     alloc: Global,
     paths: &NameTable<'_>,
     functions: &[Defined<'_>],
-    tree: &ast::Crate,
+    krate: &ast::Crate,
 ) -> Result<Program, NoMemory>
-    ensures { IfOk result (λ p. p ≡ program_in (look_up paths.now) (map function_seen functions.now) tree.now) }
+    ensures { IfOk result (λ p. p ≡ program_in (look_up paths.now) (map function_seen functions.now) krate.now) }
 {
-    let main = path_in(alloc, tree.name.as_slice(), b"main")?;
+    let main = path_in(alloc, krate.name.text.as_slice(), b"main")?;
     Ok(Program {
-        krate: Text::from_slice(alloc, tree.name.as_slice())?,
+        krate: Text::from_slice(alloc, krate.name.text.as_slice())?,
         functions: load_functions(alloc, paths, functions)?,
         main: DefId(index_in(paths, main.as_slice())),
     })

@@ -4,7 +4,7 @@ ghost use Rattle.mm_load.specs.Meaning.{index_in, head_in, type_of, types_of, re
 ghost use Rattle.mm_load.specs.Names.{look_up};
 
 use crate::name_table::{NameTable, find};
-use mm_parse::ast;
+use mm_ast as ast;
 use mm_terms::{NoMemory, Ty, TyHead, Tys};
 use std::alloc::Global;
 
@@ -22,9 +22,15 @@ fn load_head(scope: &NameTable<'_>, head: &ast::Head) -> TyHead
         ast::Head::Param(name) => TyHead::Param(index_in(scope, name.as_slice())),
         ast::Head::U64 => TyHead::U64,
         ast::Head::Bool => TyHead::Bool,
-        ast::Head::Tuple => TyHead::Tuple,
         ast::Head::Ref => TyHead::Ref,
         ast::Head::Boxed => TyHead::Boxed,
+        ast::Head::Tuple
+        | ast::Head::SelfType
+        | ast::Head::FnPtr
+        | ast::Head::FnItem(_)
+        | ast::Head::Closure(_)
+        | ast::Head::Dyn(_)
+        | ast::Head::Adt(_) => TyHead::Tuple,
     }
 }
 

@@ -3,21 +3,42 @@ ghost use Rattle.std.specs.Prelude.{◌≡◌, map};
 ghost use Rattle.mm_load.specs.Asking.{Reports};
 ghost use Rattle.mm_load.specs.Names.{look_up};
 ghost use Rattle.mm_load.specs.Seen.{function_seen};
-ghost use Rattle.mm_load.specs.Rules.{fits, misfit_call, misfit_block, misfits_in_function, misfits_in_functions};
+ghost use Rattle.mm_load.specs.Rules.{fits, misfit_named, misfit_call, misfit_block, misfits_in_function, misfits_in_functions};
 ghost use Rattle.mm_load.specs.declared.rule.Rule.TheVariants.{WrongArity};
 
 use crate::functions::Defined;
 use crate::load_error::{LoadError, fault_if};
 use crate::name_table::{NameTable, function_at, path_text};
 use crate::rule::Rule;
-use mm_parse::ast;
+use mm_ast as ast;
 use std::alloc::Global;
 
-/// Whether the call has as many type arguments and operands as the callee takes.
-fn call_fits(call: &ast::Call, callee: &ast::Function) -> bool
-    ensures { result ≡ fits call.now callee.now }
+/// Whether there are as many type arguments and operands as the callee takes.
+fn call_fits(named: &ast::PathWithArgs, operands: &[ast::Operand], callee: &ast::Function) -> bool
+    ensures { result ≡ fits named.now operands.now callee.now }
 {
-    call.args.len() == callee.type_params.len() && call.operands.len() == callee.params.len()
+    named.args.len() == callee.type_params.len() && operands.len() == callee.signature.params.len()
+}
+
+#[tactic(auto, unfolding(crate::specs::Rules::misfit_named))]
+fn check_named(
+    alloc: Global,
+    paths: &NameTable<'_>,
+    functions: &[Defined<'_>],
+    operands: &[ast::Operand],
+    named: &ast::PathWithArgs,
+) -> Result<(), LoadError>
+    ensures { Reports WrongArity (misfit_named (look_up paths.now) (map function_seen functions.now) operands.now named.now) result }
+{
+    let path = path_text(alloc, &named.path)?;
+    match function_at(paths, functions, path.as_slice()) {
+        Some(callee) => fault_if(
+            !call_fits(named, operands, callee.function),
+            Rule::WrongArity,
+            named.path.line,
+        ),
+        None => Ok(()),
+    }
 }
 
 #[tactic(auto, unfolding(crate::specs::Rules::misfit_call))]
@@ -29,14 +50,13 @@ fn check_call(
 ) -> Result<(), LoadError>
     ensures { Reports WrongArity (misfit_call (look_up paths.now) (map function_seen functions.now) call.now) result }
 {
-    let path = path_text(alloc, &call.callee)?;
-    match function_at(paths, functions, path.as_slice()) {
-        Some(callee) => fault_if(
-            !call_fits(call, callee.function),
-            Rule::WrongArity,
-            call.callee.at,
-        ),
-        None => Ok(()),
+    match &call.called {
+        ast::Called::Callee(ast::Callee::Direct(named)) => {
+            check_named(alloc, paths, functions, call.operands.as_slice(), named)
+        }
+        ast::Called::Callee(ast::Callee::Method(_))
+        | ast::Called::Callee(ast::Callee::Call(_))
+        | ast::Called::Pointer(_) => Ok(()),
     }
 }
 
@@ -64,7 +84,7 @@ fn check_function(
 ) -> Result<(), LoadError>
     ensures { Reports WrongArity (misfits_in_function (look_up paths.now) (map function_seen functions.now) function.now) result }
 {
-    for block in function.blocks.as_slice() {
+    for block in function.body.blocks.as_slice() {
         check_block(alloc, paths, functions, block)?;
     }
     Ok(())

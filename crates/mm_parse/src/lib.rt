@@ -1,18 +1,12 @@
-//! Reading tokens into a tree. Each function reads one part from the head of the tokens, as its rule in the grammar says.
+//! Reading tokens into a tree.
 #![tactic(auto)]
 
-pub mod ast;
-mod body;
-mod ends;
+mod definitions;
+mod functions;
+mod impls;
 mod items;
-mod krate;
-mod names;
-mod operands;
-mod pieces;
-mod statements;
-mod types;
+mod krates;
+mod methods;
+mod text;
 
-pub use krate::{one_tree, parse};
-
-#[cfg(test)]
-mod tests;
+pub use text::{no_fault, one_fault, one_tree, parse, tree_is_written};

@@ -3,7 +3,6 @@ pub mod CommandNumbers
 pub mod Meanings
 pub mod OneReport
 pub mod Reports
-pub mod LexedNames
 pub mod NamedPrograms
 pub mod OneRun
 pub mod Verdicts

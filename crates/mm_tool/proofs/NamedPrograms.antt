@@ -9,7 +9,6 @@ use Rattle.mm_program.specs.Uses.{uses_of}
 use Rattle.mm_program.specs.WellFormed.{IsWellFormed}
 use Rattle.mm_program.specs.declared.program.Program.{Program}
 use Rattle.mm_collect.proofs.InstanceLemmas.{members_are}
-use Rattle.mm_lex.specs.LexTokens.{IsName as IsLexedName}
 use Rattle.mm_names.specs.Names.{IsName}
 use Rattle.mm_load.proofs.ChainLemmas.{IsChain}
 use Rattle.mm_load.proofs.PathLemmas.{HavePaths, means_paths}
@@ -17,10 +16,10 @@ use Rattle.mm_load.proofs.WellFormedLemmas.{means_well}
 use Rattle.mm_symbols.specs.ItemForms.{IsPathText, HasNames, IsItemIn}
 use Rattle.mm_symbols.proofs.InstanceItems.{instance_is_item}
 use Rattle.mm_tool.specs.Report.{Means}
-use Rattle.mm_tool.proofs.LexedNames.{name_of_lexed}
+use Rattle.mm_tool.proofs.Meanings.{tree_written}
 
 path_text : (path : List ℕ) → IsChain path → IsPathText path
-path_text path chain = record { names = chain.names; each = record { some = chain.some; each = All-weaker IsLexedName IsName name_of_lexed chain.names chain.each }; is = chain.is }
+path_text path chain = record { names = chain.names; each = record { some = chain.some; each = chain.each }; is = chain.is }
 
 one_id : (c d : DefId) → c.0 ≡ d.0 → c ≡ d
 one_id c d same = λ i. record { 0 = same i }
@@ -32,13 +31,13 @@ named p paths = record {
 }
 
 pub means_well_formed : (text : List ℕ) (p : Program) → Means text p → IsWellFormed p
-means_well_formed text p m = means_well text m.tokens m.tree p m.lexed m.spelled m.loaded
+means_well_formed text p m = means_well m.tree p (tree_written text p m) m.loaded
 
 paths_of : (text : List ℕ) (p : Program) → Means text p → HavePaths p
-paths_of text p m = means_paths text m.tokens m.tree p m.lexed m.spelled m.loaded
+paths_of text p m = means_paths m.tree p (tree_written text p m) m.loaded
 
 pub means_krate : (text : List ℕ) (p : Program) → Means text p → IsName p.krate
-means_krate text p m = name_of_lexed p.krate (paths_of text p m).krate
+means_krate text p m = (paths_of text p m).krate
 
 pub means_names : (text : List ℕ) (p : Program) → Means text p → HasNames p
 means_names text p m = named p (paths_of text p m)

@@ -1,4 +1,5 @@
 pub mod Observed
+pub mod Refusals
 pub mod Report
 pub mod WordReading
 pub mod Words

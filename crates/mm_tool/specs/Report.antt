@@ -9,7 +9,7 @@ use Rattle.mm_program.specs.declared.program.Opts.{Opts}
 use Rattle.mm_collect.specs.declared.fault.CollectFault.{CollectFault}
 use Rattle.mm_collect.specs.declared.fault.CollectFault.TheVariants as fault
 use Rattle.mm_program.specs.Verdict.{IsAccepted, IsTooMany, IsTooLong}
-use Rattle.mm_parse.specs.declared.ast.Crate.{Crate}
+use Rattle.mm_ast.specs.declared.items.Ast.{Ast}
 use Rattle.mm_lex.specs.declared.token.Token.{Token}
 use Rattle.mm_objects.specs.declared.objects.Objects.{Objects}
 use Rattle.mm_objects.specs.Emitted.{AllResolve, AreObjectsOf, whole_crate}
@@ -25,8 +25,9 @@ use Rattle.mm_tool.specs.declared.answer.Product.{Product}
 use Rattle.mm_tool.specs.declared.answer.Product.TheVariants as product
 use Rattle.mm_tool.specs.declared.words.Command.{Command}
 use Rattle.mm_tool.specs.declared.words.Command.TheVariants as command
-use Rattle.mm_lex.specs.LexText.{AreTokensOf}
-use Rattle.mm_parse.specs.Grammar as grammar
+use Rattle.mm_lex.specs.Lexemes.{lexemes}
+use Rattle.mm_lex.specs.Tokens.{AreTokensOf}
+use Rattle.mm_grammar.specs.Reading.{IsText}
 use Rattle.mm_load.specs.Meaning.{IsProgram}
 use Rattle.mm_symbols.specs.Listing.{IsListing}
 use Rattle.mm_tool.specs.Observed.{obs_text, obs_status}
@@ -36,8 +37,8 @@ use Rattle.mm_tool.specs.Words.{AreWords, IsNoCommand}
 pub record Means (text : List ℕ) (program : Program) : Type 0 where
   pub tokens : List Token
   pub lexed : AreTokensOf text tokens
-  pub tree : Crate
-  pub spelled : grammar.text tree tokens
+  pub tree : Ast
+  pub spelled : IsText tree (lexemes text tokens)
   pub loaded : IsProgram tree program
 
 -- some text means the program

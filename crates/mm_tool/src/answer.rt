@@ -4,9 +4,10 @@ ghost use Rattle.mm_emit.specs.Complete.{IsComplete};
 ghost use Rattle.mm_tool.specs.Report.{Means, IsMeant, IsObjectsOf, Shows, IsVerdict, IsAnswer};
 
 use crate::refusal::refuse;
+use crate::text_refusal::TextRefusal;
 use mm_collect::collect;
 use mm_emit::emit_one;
-use mm_lex::{TextError, lex};
+use mm_lex::lex;
 use mm_load::load;
 use mm_objects::write_objects;
 use mm_parse::parse;
@@ -36,13 +37,13 @@ pub struct Answer {
 /// # Errors
 ///
 /// `BadText` exactly where it means none.
-pub fn read_program(alloc: Global, text: &[u8]) -> Result<Program, TextError>
+pub fn read_program(alloc: Global, text: &[u8]) -> Result<Program, TextRefusal>
     requires { length text.now ≤ 4194304 }
     ensures program { IfOk result (Means text.now) }
-    ensures bad { result ≡ Err TextError.BadText → (p : Program) → Means text.now p → ⊥ }
+    ensures bad { result ≡ Err TextRefusal.BadText → (p : Program) → Means text.now p → ⊥ }
 {
     let tokens = lex(alloc, text)?;
-    let tree = parse(alloc, &tokens)?;
+    let tree = parse(alloc, text, &tokens)?;
     Ok(load(alloc, &tree)?)
 }
 
@@ -111,10 +112,10 @@ pub fn answer_to(
 {
     match read_program(alloc, text) {
         Ok(p) => judge(alloc, product, &p, opts),
-        Err(TextError::BadText) => Ok(Answer {
+        Err(TextRefusal::BadText) => Ok(Answer {
             status: 3,
             output: Vec::from_slice(alloc, b"error: bad text\n")?,
         }),
-        Err(TextError::NoMemory) => Err(NoMemory),
+        Err(TextRefusal::NoMemory) => Err(NoMemory),
     }
 }

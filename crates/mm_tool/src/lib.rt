@@ -11,10 +11,12 @@ mod linking;
 mod numbers;
 mod observation;
 mod refusal;
+mod text_refusal;
 mod tool;
 mod words;
 
 pub use answer::{Answer, Product, answer_to, one_meaning, read_program};
 pub use linking::answer_link;
+pub use text_refusal::TextRefusal;
 pub use tool::{OBJECTS_LIMIT, TEXT_LIMIT, one_report, tool_one};
 pub use words::{Command, one_command, read_words};

@@ -1,16 +1,11 @@
-use Rattle.std.proofs.Common.{◌≡◌, map, ◌∙◌, ap}
-use Rattle.mm_load.specs.Names.{look_up}
-use Rattle.mm_load.specs.Seen.{function_seen}
-use Rattle.mm_load.specs.WrittenItem.{functions_of, paths_to, paths_in}
-use Rattle.mm_load.specs.Meaning.{program_in}
+use Rattle.std.proofs.Common.{sym, ◌∙◌, ap, subst}
+use Rattle.mm_load.specs.Built.{built_crates}
+use Rattle.mm_load.specs.Rules.{IsFirstIn}
+use Rattle.mm_load.specs.WrittenItem.{first_crate}
 use Rattle.mm_load.proofs.load.Goals as goal
 
-pub returns-clause-program : goal.returns-clause-program
-returns-clause-program c =
-    let tree = c.args.tree.now in
-    let those : map function_seen c.in_ok-functions.functions.items ≡ functions_of tree = c.in_ok-functions.ensures in
-    let same : look_up c.in_ok-paths.paths ≡ paths_in tree = c.in_ok-paths.ensures ∙ ap paths_to (ap (map function_seen) c.deref.ensures.value ∙ those) in
-    record {
-      kept = c.in_ok-check_rules.ensures (ap (map function_seen) c.deref-2.ensures.value ∙ those) same;
-      means = c.in_ok-load_program.ensures ∙ ap (λ fs. program_in (look_up c.in_ok-paths.paths) fs tree) (ap (map function_seen) c.deref-3.ensures.value ∙ those) ∙ ap (λ ns. program_in ns (functions_of tree) tree) same;
-    }
+pub returns-clause-fault : goal.returns-clause-fault
+returns-clause-fault c rule line is = record {
+  built = ap built_crates (sym c.as_slice.ensures) ∙ sym c.in-Some.ensures.built;
+  fault = subst (λ krate. IsFirstIn krate rule line) (c.in-Some.ensures.krate ∙ ap first_crate c.as_slice.ensures) (c.load_crate.ensures.fault rule line is);
+}

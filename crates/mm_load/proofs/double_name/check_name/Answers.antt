@@ -1,12 +1,12 @@
 use Rattle.std.proofs.Common.{refl, subst}
 use Rattle.mm_load.specs.Asking.{Reports}
-use Rattle.mm_load.specs.Rules.{position_if}
+use Rattle.mm_load.specs.Rules.{line_if}
 use Rattle.mm_load.specs.declared.rule.Rule.TheVariants.{DoubleName}
 use Rattle.mm_load.proofs.IndexLemmas.{was_there}
 use Rattle.mm_load.proofs.double_name.check_name.Goals as goal
 
 pub returns-clause-answer : goal.returns-clause-answer
 returns-clause-answer c =
-    subst (λ b. Reports DoubleName (position_if b c.args.at) c.fault_if.result)
+    subst (λ b. Reports DoubleName (line_if b c.args.line) c.fault_if.result)
     (was_there (λ k. k.now) c.args.seen.now.keys c.args.name.now c.args.name.now c.in_ok-is_new.is_new c.in_ok-is_new.ensures.added refl)
     c.fault_if.ensures

@@ -2,9 +2,9 @@ use Rattle.std.proofs.Common.{◌++◌, map, length, sym, ◌∙◌, ap, arith}
 use Rattle.std.proofs.lemmas.List.{take_all, append_assoc}
 use Rattle.std.specs.List.{flat_map}
 use Rattle.mm_load.specs.Seen.{function_seen}
-use Rattle.mm_load.specs.WrittenItem.{defined_by, functions_in, path_in}
-use Rattle.mm_load.proofs.ItemViews.{name_of, items_in}
-use Rattle.mm_parse.specs.declared.ast.Item.TheViews.{out-Item}
+use Rattle.mm_load.specs.WrittenItem.{defined_by, functions_in, path_in, name_of}
+use Rattle.mm_load.proofs.ItemViews.{items_in}
+use Rattle.mm_ast.specs.declared.items.Item.TheViews.{out-Item}
 use Rattle.mm_load.proofs.ItemLemmas.{functions_in-parts}
 use Rattle.mm_load.proofs.functions.+add_functions.Goals as goal
 
@@ -14,5 +14,5 @@ returns t c =
     let prefix = c.args.prefix.now in
     let path = path_in prefix (name_of item).text in
     let old = map function_seen c.args.functions.now.items in
-    let all = ap (λ l. old ++ defined_by path (out-Item item).at (out-Item item).form ++ flat_map (λ inner. functions_in inner path) l) (take_all c.loop-inner.inner-index (items_in item) (omega (arith, ap length c.as_slice-inner-items.ensures))) in
-    c.loop-inner.invariant ∙ all ∙ append_assoc old (defined_by path (out-Item item).at (out-Item item).form) (flat_map (λ inner. functions_in inner path) (items_in item)) ∙ ap (λ l. old ++ l) (sym (functions_in-parts item prefix))
+    let all = ap (λ l. old ++ defined_by path (out-Item item).line (out-Item item).form ++ flat_map (λ inner. functions_in inner path) l) (take_all c.loop-inner.inner-index (items_in item) (omega (arith, ap length c.as_slice-inner-items.ensures))) in
+    c.loop-inner.invariant ∙ all ∙ append_assoc old (defined_by path (out-Item item).line (out-Item item).form) (flat_map (λ inner. functions_in inner path) (items_in item)) ∙ ap (λ l. old ++ l) (sym (functions_in-parts item prefix))

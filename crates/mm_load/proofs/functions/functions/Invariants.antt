@@ -5,4 +5,4 @@ use Rattle.mm_load.specs.WrittenItem.{functions_in}
 use Rattle.mm_load.proofs.functions.functions.Given as goal
 
 abbrev pub invariant-loop-item : goal.invariant-loop-item
-invariant-loop-item l = map function_seen l.functions.items ≡ flat_map (λ item. functions_in item l.tree.name) (take l.item-index l.tree.items)
+invariant-loop-item l = map function_seen l.functions.items ≡ flat_map (λ item. functions_in item l.krate.name.text) (take l.item-index l.krate.items)

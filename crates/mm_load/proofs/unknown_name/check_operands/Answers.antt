@@ -1,4 +1,3 @@
-use Rattle.std.proofs.lemmas.List.{get_or_default}
 use Rattle.std.proofs.lemmas.Result.{err_from_is_err_and}
 use Rattle.mm_load.specs.Rules.{unknown_in_operand, unknown_in_operands}
 use Rattle.mm_load.specs.declared.rule.Rule.TheVariants.{UnknownName}
@@ -13,4 +12,4 @@ returns-in_err-check_operand c =
     let i = c.loop-operand.operand-index in
     let e = c.in_err-check_operand.field-0.0 in
     handed UnknownName (unknown_in_operands f xs) c.from_residual.result e (err_from_is_err_and c.from_residual.result c.from_residual.ensures.1)
-    (fault_more (unknown_in_operand f) xs i UnknownName _ e c.loop-operand.invariant c.loop-operand-test.true (get_or_default xs i _ _ c.loop-operand-test.true) c.in_err-check_operand.ensures)
+    (fault_more (unknown_in_operand f) xs i UnknownName c.operand-item.result e c.loop-operand.invariant c.loop-operand-test.true c.operand-item.is c.in_err-check_operand.ensures)

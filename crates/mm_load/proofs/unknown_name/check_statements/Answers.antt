@@ -1,4 +1,3 @@
-use Rattle.std.proofs.lemmas.List.{get_or_default}
 use Rattle.std.proofs.lemmas.Result.{err_from_is_err_and}
 use Rattle.mm_load.specs.Rules.{unknown_in_statement, unknown_in_statements}
 use Rattle.mm_load.specs.declared.rule.Rule.TheVariants.{UnknownName}
@@ -13,4 +12,4 @@ returns-in_err-check_statement c =
     let i = c.loop-statement.statement-index in
     let e = c.in_err-check_statement.field-0.0 in
     handed UnknownName (unknown_in_statements f xs) c.from_residual.result e (err_from_is_err_and c.from_residual.result c.from_residual.ensures.1)
-    (fault_more (unknown_in_statement f) xs i UnknownName _ e c.loop-statement.invariant c.loop-statement-test.true (get_or_default xs i _ _ c.loop-statement-test.true) c.in_err-check_statement.ensures)
+    (fault_more (unknown_in_statement f) xs i UnknownName c.statement-item.result e c.loop-statement.invariant c.loop-statement-test.true c.statement-item.is c.in_err-check_statement.ensures)

@@ -6,4 +6,4 @@ use Rattle.mm_load.specs.Seen.{function_seen}
 use Rattle.mm_load.proofs.wrong_arity.check_function.Given as goal
 
 abbrev pub invariant-loop-block : goal.invariant-loop-block
-invariant-loop-block l = flat_map (misfit_block (look_up l.paths) (map function_seen l.functions)) (take l.block-index l.function.blocks) ≡ []
+invariant-loop-block l = flat_map (misfit_block (look_up l.paths) (map function_seen l.functions)) (take l.block-index l.function.body.blocks) ≡ []

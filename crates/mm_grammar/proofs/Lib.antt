@@ -1,0 +1,9 @@
+pub mod Levels
+pub mod Starting
+pub mod Anywhere
+pub mod Deciding
+pub mod Knots
+pub mod Outcomes
+pub mod WrittenTypes
+pub mod WrittenItems
+pub mod Positions

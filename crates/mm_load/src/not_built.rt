@@ -1,0 +1,292 @@
+//! Forms that are not built yet.
+ghost use Rattle.std.specs.List.{list_all};
+ghost use Rattle.std.specs.Option.{option_map_or};
+ghost use Rattle.std.specs.Prelude.{◌≡◌, true, is_some, IfSome};
+ghost use Rattle.mm_load.specs.WrittenItem.{first_crate};
+ghost use Rattle.mm_load.specs.Built.{built_head, built_type, built_types, built_base, built_step, built_place, built_callee, built_operand, built_operands, built_rvalue, built_statement, built_called, built_call, built_end, built_block, built_body, built_bound, built_signature, built_function, built_definition, built_form, built_item, built_crates};
+
+use mm_ast as ast;
+
+fn built_head(head: &ast::Head) -> bool
+    ensures { result ≡ built_head head.now }
+{
+    match head {
+        ast::Head::Param(_)
+        | ast::Head::U64
+        | ast::Head::Bool
+        | ast::Head::Tuple
+        | ast::Head::Ref
+        | ast::Head::Boxed => true,
+        ast::Head::SelfType
+        | ast::Head::FnPtr
+        | ast::Head::FnItem(_)
+        | ast::Head::Closure(_)
+        | ast::Head::Dyn(_)
+        | ast::Head::Adt(_) => false,
+    }
+}
+
+/// The head, and the types below it.
+fn built_type(ty: &ast::Type) -> bool
+    ensures { result ≡ built_type ty.now }
+{
+    if !built_head(&ty.head) {
+        return false;
+    }
+    for child in ty.children.as_slice() {
+        if !built_type(child) {
+            return false;
+        }
+    }
+    true
+}
+
+#[tactic(auto, unfolding(crate::specs::Built::built_types))]
+fn built_types(types: &[ast::Type]) -> bool
+    ensures { result ≡ built_types types.now }
+{
+    types.iter().all(|ty| built_type(ty))
+}
+
+fn built_base(base: &ast::Base) -> bool
+    ensures { result ≡ built_base base.now }
+{
+    match base {
+        ast::Base::Local(_) => true,
+        ast::Base::Static(_) => false,
+    }
+}
+
+fn built_step(step: &ast::Step) -> bool
+    ensures { result ≡ built_step step.now }
+{
+    match step {
+        ast::Step::Field(_) | ast::Step::Deref | ast::Step::Variant(_) => false,
+    }
+}
+
+fn built_steps(steps: &[ast::Step]) -> bool
+    ensures { result ≡ list_all built_step steps.now }
+{
+    steps.iter().all(|step| built_step(step))
+}
+
+#[tactic(auto, unfolding(crate::specs::Built::built_place))]
+fn built_place(place: &ast::Place) -> bool
+    ensures { result ≡ built_place place.now }
+{
+    built_base(&place.base) && built_steps(place.steps.as_slice())
+}
+
+#[tactic(auto, unfolding(crate::specs::Built::built_callee))]
+fn built_callee(callee: &ast::Callee) -> bool
+    ensures { result ≡ built_callee callee.now }
+{
+    match callee {
+        ast::Callee::Direct(named) => built_types(named.args.as_slice()),
+        ast::Callee::Method(_) | ast::Callee::Call(_) => false,
+    }
+}
+
+#[tactic(auto, unfolding(crate::specs::Built::built_operand))]
+fn built_operand(operand: &ast::Operand) -> bool
+    ensures { result ≡ built_operand operand.now }
+{
+    match operand {
+        ast::Operand::Copy(place) | ast::Operand::Move(place) => built_place(place),
+        ast::Operand::Number(_) | ast::Operand::Bool(_) => true,
+        ast::Operand::Const(_) | ast::Operand::Fn(_) => false,
+    }
+}
+
+#[tactic(auto, unfolding(crate::specs::Built::built_operands))]
+fn built_operands(operands: &[ast::Operand]) -> bool
+    ensures { result ≡ built_operands operands.now }
+{
+    operands.iter().all(|operand| built_operand(operand))
+}
+
+#[tactic(auto, unfolding(crate::specs::Built::built_rvalue))]
+fn built_rvalue(rvalue: &ast::Rvalue) -> bool
+    ensures { result ≡ built_rvalue rvalue.now }
+{
+    match rvalue {
+        ast::Rvalue::Use(operand) | ast::Rvalue::Not(operand) => built_operand(operand),
+        ast::Rvalue::Binary(_, left, right) => built_operand(left) && built_operand(right),
+        ast::Rvalue::Ref(_)
+        | ast::Rvalue::Variant(_)
+        | ast::Rvalue::Boxed(_)
+        | ast::Rvalue::Tuple(_)
+        | ast::Rvalue::New(_)
+        | ast::Rvalue::Dyn(_, _, _) => false,
+    }
+}
+
+#[tactic(auto, unfolding(crate::specs::Built::built_statement))]
+fn built_statement(statement: &ast::Statement) -> bool
+    ensures { result ≡ built_statement statement.now }
+{
+    match statement {
+        ast::Statement::Set(place, rvalue) => built_place(place) && built_rvalue(rvalue),
+        ast::Statement::Print(operand) => built_operand(operand),
+    }
+}
+
+#[tactic(auto, unfolding(crate::specs::Built::built_called))]
+fn built_called(called: &ast::Called) -> bool
+    ensures { result ≡ built_called called.now }
+{
+    match called {
+        ast::Called::Callee(callee) => built_callee(callee),
+        ast::Called::Pointer(_) => false,
+    }
+}
+
+#[tactic(auto, unfolding(crate::specs::Built::built_call))]
+fn built_call(call: &ast::Call) -> bool
+    ensures { result ≡ built_call call.now }
+{
+    built_place(&call.place)
+        && built_called(&call.called)
+        && built_operands(call.operands.as_slice())
+}
+
+#[tactic(auto, unfolding(crate::specs::Built::built_end))]
+fn built_end(end: &ast::End) -> bool
+    ensures { result ≡ built_end end.now }
+{
+    match end {
+        ast::End::Return | ast::End::Unreachable | ast::End::Goto(_) => true,
+        ast::End::Switch(switch) => built_operand(&switch.operand),
+        ast::End::Call(call) => built_call(call),
+        ast::End::Drop(_, _) => false,
+    }
+}
+
+fn built_statements(statements: &[ast::Statement]) -> bool
+    ensures { result ≡ list_all built_statement statements.now }
+{
+    statements
+        .iter()
+        .all(|statement| built_statement(statement))
+}
+
+#[tactic(auto, unfolding(crate::specs::Built::built_block))]
+fn built_block(block: &ast::Block) -> bool
+    ensures { result ≡ built_block block.now }
+{
+    built_statements(block.statements.as_slice()) && built_end(&block.end)
+}
+
+fn built_blocks(blocks: &[ast::Block]) -> bool
+    ensures { result ≡ list_all built_block blocks.now }
+{
+    blocks.iter().all(|block| built_block(block))
+}
+
+#[tactic(auto, unfolding(crate::specs::Built::built_body))]
+fn built_body(body: &ast::Body) -> bool
+    ensures { result ≡ built_body body.now }
+{
+    built_types(body.lets.as_slice()) && built_blocks(body.blocks.as_slice())
+}
+
+fn built_bound(bound: &ast::Bound) -> bool
+    ensures { result ≡ built_bound bound.now.form }
+{
+    match &bound.form {
+        ast::BoundForm::Trait(_) | ast::BoundForm::Call => false,
+    }
+}
+
+fn built_result(ty: &Option<ast::Type>) -> bool
+    ensures { result ≡ option_map_or built_type ty.now true }
+{
+    match ty {
+        Some(ty) => built_type(ty),
+        None => true,
+    }
+}
+
+#[tactic(auto, unfolding(crate::specs::Built::built_signature))]
+fn built_signature(signature: &ast::Signature) -> bool
+    ensures { result ≡ built_signature signature.now }
+{
+    built_types(signature.params.as_slice()) && built_result(&signature.result)
+}
+
+fn built_bounds(bounds: &[ast::Bound]) -> bool
+    ensures { result ≡ list_all (λ bound. built_bound bound.form) bounds.now }
+{
+    bounds.iter().all(|bound| built_bound(bound))
+}
+
+#[tactic(auto, unfolding(crate::specs::Built::built_function))]
+fn built_function(function: &ast::Function) -> bool
+    ensures { result ≡ built_function function.now }
+{
+    !function.is_inline
+        && built_bounds(function.bounds.as_slice())
+        && built_signature(&function.signature)
+        && built_body(&function.body)
+}
+
+fn built_definition(form: &ast::DefinitionForm) -> bool
+    ensures { result ≡ built_definition form.now }
+{
+    match form {
+        ast::DefinitionForm::Function(function) => built_function(function),
+        ast::DefinitionForm::Closure(_)
+        | ast::DefinitionForm::Struct(_)
+        | ast::DefinitionForm::Enum(_)
+        | ast::DefinitionForm::Trait(_)
+        | ast::DefinitionForm::Static(_)
+        | ast::DefinitionForm::Const(_) => false,
+    }
+}
+
+fn built_form(form: &ast::ItemForm) -> bool
+    ensures { result ≡ built_form form.now }
+{
+    match form {
+        ast::ItemForm::Module(_) => true,
+        ast::ItemForm::Impl(_) => false,
+        ast::ItemForm::Definition(definition) => built_definition(&definition.form),
+    }
+}
+
+/// The item, and those in it.
+fn built_item(item: &ast::Item) -> bool
+    ensures { result ≡ built_item item.now }
+{
+    if !built_form(&item.form) {
+        return false;
+    }
+    for inner in item.items.as_slice() {
+        if !built_item(inner) {
+            return false;
+        }
+    }
+    true
+}
+
+fn built_items(items: &[ast::Item]) -> bool
+    ensures { result ≡ list_all built_item items.now }
+{
+    items.iter().all(|item| built_item(item))
+}
+
+/// The crate, where there is one alone and all of it is built.
+#[tactic(auto, unfolding(crate::specs::Built::built_crates))]
+pub fn built_crate(crates: &[ast::Crate]) -> Option<&ast::Crate>
+    ensures krate { IfSome result (λ krate. krate.now ≡ first_crate crates.now) }
+    ensures built { is_some result ≡ built_crates crates.now }
+{
+    let [krate] = crates else {
+        return None;
+    };
+    if !built_items(krate.items.as_slice()) {
+        return None;
+    }
+    Some(krate)
+}

@@ -1,0 +1,11 @@
+use Rattle.std.proofs.Common.{◌≡◌, ◌-◌, length}
+use Rattle.mm_forms.specs.Forms.{each_in}
+use Rattle.mm_forms.proofs.Loops.{with_front}
+use Rattle.mm_grammar.specs.Codes.{code}
+use Rattle.mm_grammar.specs.Seen.{seen}
+use Rattle.mm_grammar.specs.ItemGrammar.{krate, more_crates}
+use Rattle.mm_grammar.specs.Reading.{begun, read}
+use Rattle.mm_parse.proofs.krates.more_crates.Given as goal
+
+abbrev pub invariant-each : goal.invariant-each
+invariant-each l = read more_crates (seen l.tokens) ≡ with_front l.crates (each_in code (begun krate) (λ i. read krate) (length (seen l.tokens) - l.place) l.place (seen l.rest))

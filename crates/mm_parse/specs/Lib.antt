@@ -1,9 +1,0 @@
-pub mod Codes
-pub mod Given
-pub mod Grammar
-pub mod Language
-pub mod TokenParsing
-pub mod TypeParsing
-pub mod BodyParsing
-pub mod Parsing
-pub mod Reading

@@ -1,7 +1,9 @@
-//! Runs the cases in the files that its words name through the top call of the program, and prints each that differs.
+//! Runs the cases in the files that its words name through the top call of the program, or through the reader of texts, and
+//! prints each that differs.
 #![tactic(auto)]
 
 mod cases;
+mod reading;
 mod run;
 mod texts;
 

@@ -1,4 +1,5 @@
 use crate::cases::{Case, behind, device_of, line_of, part_with, read_case, words_of};
+use crate::reading::reading_of;
 use crate::texts::pieces_of;
 use anyhow::Result;
 use mm_outside::{BytesSink, BytesSource};
@@ -26,6 +27,14 @@ fn answer(alloc: Global, words: &[String], text: &[u8], block: &str) -> Result<(
     Ok((status, sink.written().to_vec(alloc)?))
 }
 
+/// What is answered to words and a text: to the word `parse` how the text is read, and else what the program answers.
+fn answered(alloc: Global, words: &[String], text: &[u8], block: &str) -> Result<(u8, Vec<u8>)> {
+    match words {
+        [word] if word.as_str() == "parse" => reading_of(alloc, text),
+        _ => answer(alloc, words, text, block),
+    }
+}
+
 /// Runs a case with these words on this text, and prints an answer that is other than the case says.
 fn run_one(
     rt: &HostRuntime,
@@ -35,7 +44,7 @@ fn run_one(
     text: &[u8],
     counts: &mut Counts,
 ) -> Result<()> {
-    let (status, output) = answer(rt.alloc(), words, text, block)?;
+    let (status, output) = answered(rt.alloc(), words, text, block)?;
     counts.run = counts.run.saturating_add(1);
     if status != case.status || output != case.output {
         counts.differ = counts.differ.saturating_add(1);

@@ -1,0 +1,4 @@
+pub mod Cutting
+pub mod Written
+pub mod Neighbours
+pub mod Joining

@@ -1,6 +1,6 @@
 use crate::names::{Name, Path, PathWithArgs};
 use crate::types::Type;
-use sqlite_items::Items;
+use sqlite_items::{Boxed, Items};
 
 /// The body of a function, method or closure.
 #[derive(Drop)]
@@ -31,8 +31,8 @@ pub enum End {
     Return,
     Unreachable,
     Goto(Label),
-    Switch(Switch),
-    Call(Call),
+    Switch(Boxed<Switch>),
+    Call(Boxed<Call>),
     Drop(Place, Label),
 }
 
@@ -105,7 +105,7 @@ pub struct Place {
 pub enum Base {
     /// The local of this number: 0 is the result, then the parameters, then the locals of `let`.
     Local(u32),
-    Static(Path),
+    Static(Boxed<Path>),
 }
 
 /// A projection.
@@ -126,9 +126,9 @@ pub enum Operand {
     Move(Place),
     Number(u64),
     Bool(bool),
-    Const(PathWithArgs),
+    Const(Boxed<PathWithArgs>),
     /// A function as a value.
-    Fn(Callee),
+    Fn(Boxed<Callee>),
 }
 
 /// An operation on two operands.
@@ -150,15 +150,15 @@ pub enum Rvalue {
     /// The address of a place.
     Ref(Place),
     Not(Operand),
-    Binary(Op, Operand, Operand),
+    Binary(Op, Boxed<Operand>, Boxed<Operand>),
     /// The number of the active variant of an enum.
     Variant(Place),
     /// The operand in a new box.
     Boxed(Operand),
     Tuple(Items<Operand>),
-    New(New),
+    New(Boxed<New>),
     /// `dyncast`: the operand, of which this is the type behind the pointer, as a pointer to `dyn` of a trait.
-    Dyn(Operand, Type, DynTrait),
+    Dyn(Boxed<Operand>, Boxed<Type>, Boxed<DynTrait>),
 }
 
 /// A struct, a closure, or a variant of an enum, with its fields.

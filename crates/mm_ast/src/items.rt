@@ -2,7 +2,7 @@ use crate::bodies::Body;
 use crate::names::{Name, PathWithArgs};
 use crate::terms::Term;
 use crate::types::Type;
-use sqlite_items::Items;
+use sqlite_items::{Boxed, Items};
 
 /// The tree of a text: its crates, at least one.
 #[derive(Drop)]
@@ -33,8 +33,8 @@ pub struct Item {
 #[derive(Drop)]
 pub enum ItemForm {
     Module(Name),
-    Impl(Impl),
-    Definition(Definition),
+    Impl(Boxed<Impl>),
+    Definition(Boxed<Definition>),
 }
 
 /// A definition, and whether `pub` stands before it.

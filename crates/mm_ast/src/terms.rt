@@ -1,6 +1,6 @@
 use crate::bodies::Callee;
 use crate::names::{Name, Path, PathWithArgs};
-use sqlite_items::Items;
+use sqlite_items::{Boxed, Items};
 
 /// A constant term: the value of a static or of a constant. Its head says how many parts it has.
 #[derive(Drop)]
@@ -19,9 +19,9 @@ pub enum TermHead {
     Bool(bool),
     Tuple,
     /// A struct, or with a name that variant of an enum.
-    New(PathWithArgs, Option<Name>),
+    New(Boxed<PathWithArgs>, Option<Name>),
     /// `fn` and a callee: a function as a value.
-    Fn(Callee),
+    Fn(Boxed<Callee>),
     /// `&` and a static: its address.
-    At(Path),
+    At(Boxed<Path>),
 }

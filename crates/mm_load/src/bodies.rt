@@ -66,7 +66,11 @@ fn load_rvalue(rvalue: &ast::Rvalue) -> Rvalue
         ast::Rvalue::Use(operand) => Rvalue::Use(load_operand(operand)),
         ast::Rvalue::Not(operand) => Rvalue::Not(load_operand(operand)),
         ast::Rvalue::Binary(op, left, right) => {
-            Rvalue::Binary(load_op(*op), load_operand(left), load_operand(right))
+            Rvalue::Binary(
+                load_op(*op),
+                load_operand(left.get()),
+                load_operand(right.get()),
+            )
         }
         ast::Rvalue::Ref(_)
         | ast::Rvalue::Variant(_)
@@ -186,11 +190,12 @@ fn load_end(
         ast::End::Return => Ok(End::Return),
         ast::End::Goto(label) => Ok(End::Goto(label.number)),
         ast::End::Switch(switch) => {
+            let switch = switch.get();
             let operand = load_operand(&switch.operand);
             let arms = load_arms(alloc, switch.arms.as_slice())?;
             Ok(End::Switch(operand, arms, switch.otherwise.number))
         }
-        ast::End::Call(call) => Ok(End::Call(load_call(alloc, paths, scope, call)?)),
+        ast::End::Call(call) => Ok(End::Call(load_call(alloc, paths, scope, call.get())?)),
         ast::End::Unreachable | ast::End::Drop(_, _) => Ok(End::Unreachable),
     }
 }

@@ -48,7 +48,7 @@ fn check_form(alloc: Global, form: &ast::ItemForm) -> Result<(), LoadError>
     let ast::ItemForm::Definition(definition) = form else {
         return Ok(());
     };
-    let ast::DefinitionForm::Function(function) = &definition.form else {
+    let ast::DefinitionForm::Function(function) = &definition.get().form else {
         return Ok(());
     };
     check_names(alloc, function.type_params.as_slice())

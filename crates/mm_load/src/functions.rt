@@ -42,6 +42,7 @@ fn add_function<'a>(
     let ast::ItemForm::Definition(definition) = form else {
         return Ok(());
     };
+    let definition = definition.get();
     let ast::DefinitionForm::Function(function) = &definition.form else {
         return Ok(());
     };

@@ -27,7 +27,9 @@ pub fn name_text(form: &ast::ItemForm) -> &[u8]
 {
     match form {
         ast::ItemForm::Module(name) => name.text.as_slice(),
-        ast::ItemForm::Definition(definition) => definition_name(&definition.form).text.as_slice(),
+        ast::ItemForm::Definition(definition) => definition_name(&definition.get().form)
+            .text
+            .as_slice(),
         ast::ItemForm::Impl(_) => b"",
     }
 }
@@ -39,7 +41,7 @@ pub fn name_line(form: &ast::ItemForm) -> u32
 {
     match form {
         ast::ItemForm::Module(name) => name.line,
-        ast::ItemForm::Definition(definition) => definition_name(&definition.form).line,
+        ast::ItemForm::Definition(definition) => definition_name(&definition.get().form).line,
         ast::ItemForm::Impl(_) => 0,
     }
 }

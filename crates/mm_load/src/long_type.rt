@@ -69,7 +69,7 @@ fn check_block(block: &ast::Block) -> Result<(), LoadError>
     ensures { Reports LongType (long_in_block block.now) result }
 {
     if let ast::End::Call(call) = &block.end {
-        return check_call(call);
+        return check_call(call.get());
     }
     Ok(())
 }

@@ -112,7 +112,8 @@ fn built_rvalue(rvalue: &ast::Rvalue) -> bool
 {
     match rvalue {
         ast::Rvalue::Use(operand) | ast::Rvalue::Not(operand) => built_operand(operand),
-        ast::Rvalue::Binary(_, left, right) => built_operand(left) && built_operand(right),
+        ast::Rvalue::Binary(_, left, right) => built_operand(left.get())
+            && built_operand(right.get()),
         ast::Rvalue::Ref(_)
         | ast::Rvalue::Variant(_)
         | ast::Rvalue::Boxed(_)
@@ -157,8 +158,8 @@ fn built_end(end: &ast::End) -> bool
 {
     match end {
         ast::End::Return | ast::End::Unreachable | ast::End::Goto(_) => true,
-        ast::End::Switch(switch) => built_operand(&switch.operand),
-        ast::End::Call(call) => built_call(call),
+        ast::End::Switch(switch) => built_operand(&switch.get().operand),
+        ast::End::Call(call) => built_call(call.get()),
         ast::End::Drop(_, _) => false,
     }
 }
@@ -251,7 +252,7 @@ fn built_form(form: &ast::ItemForm) -> bool
     match form {
         ast::ItemForm::Module(_) => true,
         ast::ItemForm::Impl(_) => false,
-        ast::ItemForm::Definition(definition) => built_definition(&definition.form),
+        ast::ItemForm::Definition(definition) => built_definition(&definition.get().form),
     }
 }
 

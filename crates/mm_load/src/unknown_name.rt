@@ -109,8 +109,8 @@ fn check_rvalue(function: &ast::Function, rvalue: &ast::Rvalue) -> Result<(), Lo
     match rvalue {
         ast::Rvalue::Use(operand) | ast::Rvalue::Not(operand) => check_operand(function, operand),
         ast::Rvalue::Binary(_, left, right) => {
-            check_operand(function, left)?;
-            check_operand(function, right)
+            check_operand(function, left.get())?;
+            check_operand(function, right.get())
         }
         ast::Rvalue::Ref(_)
         | ast::Rvalue::Variant(_)
@@ -231,8 +231,8 @@ fn check_end(
     match end {
         ast::End::Return | ast::End::Unreachable | ast::End::Drop(_, _) => Ok(()),
         ast::End::Goto(label) => check_label(function, *label),
-        ast::End::Switch(switch) => check_switch(function, switch),
-        ast::End::Call(call) => check_call(alloc, paths, scope, function, call),
+        ast::End::Switch(switch) => check_switch(function, switch.get()),
+        ast::End::Call(call) => check_call(alloc, paths, scope, function, call.get()),
     }
 }
 

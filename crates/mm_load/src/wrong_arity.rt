@@ -70,7 +70,7 @@ fn check_block(
     ensures { Reports WrongArity (misfit_block (look_up paths.now) (map function_seen functions.now) block.now) result }
 {
     if let ast::End::Call(call) = &block.end {
-        return check_call(alloc, paths, functions, call);
+        return check_call(alloc, paths, functions, call.get());
     }
     Ok(())
 }

@@ -19,7 +19,7 @@ use mm_grammar::pieces::{line, past_punct, past_word, starts_punct, starts_word,
 use mm_grammar::sequences::ended;
 use mm_lex::{Punct, Token, TokenKind};
 use mm_names::Word;
-use sqlite_items::Items;
+use sqlite_items::{Boxed, Items};
 use std::alloc::Global;
 
 /// The braces of a module that nests no deeper than so many levels.
@@ -156,9 +156,13 @@ fn entry<'a>(
     }
     if starts_impl(tokens) {
         let (form, rest) = impl_within(alloc, levels, tokens)?;
-        return Ok(((ItemForm::Impl(form), Items::new(alloc)), rest));
+        return Ok((
+            (ItemForm::Impl(Boxed::new(alloc, form)?), Items::new(alloc)),
+            rest,
+        ));
     }
     let (form, rest) = definition_within(alloc, levels, tokens)?;
+    let form = Boxed::new(alloc, form)?;
     Ok(((ItemForm::Definition(form), Items::new(alloc)), rest))
 }
 

@@ -16,7 +16,7 @@ use mm_grammar::pieces::{number, past_punct, past_word, starts_number, starts_pu
 use mm_grammar::sequences::{both, ended};
 use mm_lex::Punct;
 use mm_names::Word;
-use sqlite_items::Items;
+use sqlite_items::{Boxed, Items};
 use std::alloc::Global;
 
 /// A number and the block for it.
@@ -208,11 +208,11 @@ fn end_with_parts<'a>(alloc: Global, tokens: Tokens<'a>) -> Result<(End, Tokens<
 {
     if starts_switch(tokens) {
         let (switch, rest) = switch(alloc, tokens)?;
-        return Ok((End::Switch(switch), rest));
+        return Ok((End::Switch(Boxed::new(alloc, switch)?), rest));
     }
     if starts_call(tokens) {
         let (call, rest) = call(alloc, tokens)?;
-        return Ok((End::Call(call), rest));
+        return Ok((End::Call(Boxed::new(alloc, call)?), rest));
     }
     drop_end(alloc, tokens)
 }

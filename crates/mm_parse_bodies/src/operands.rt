@@ -17,7 +17,7 @@ use mm_grammar::sequences::{both, ended, listed};
 use mm_grammar::types::path_args;
 use mm_lex::Punct;
 use mm_names::Word;
-use sqlite_items::Items;
+use sqlite_items::{Boxed, Items};
 use std::alloc::Global;
 
 /// An operand.
@@ -58,11 +58,11 @@ fn named_operand<'a>(alloc: Global, tokens: Tokens<'a>) -> Result<(Operand, Toke
     if starts_word(Word::Const, tokens) {
         let rest = past_word(Word::Const, tokens)?;
         let (constant, rest) = path_args(alloc, rest)?;
-        return Ok((Operand::Const(constant), rest));
+        return Ok((Operand::Const(Boxed::new(alloc, constant)?), rest));
     }
     let rest = past_word(Word::Fn, tokens)?;
     let (callee, rest) = callee(alloc, rest)?;
-    Ok((Operand::Fn(callee), rest))
+    Ok((Operand::Fn(Boxed::new(alloc, callee)?), rest))
 }
 
 /// A comma and an operand.

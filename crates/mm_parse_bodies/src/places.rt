@@ -17,7 +17,7 @@ use mm_grammar::pieces::{
 };
 use mm_lex::Punct;
 use mm_names::Word;
-use sqlite_items::Items;
+use sqlite_items::{Boxed, Items};
 use std::alloc::Global;
 
 /// The label of a block.
@@ -96,7 +96,7 @@ fn base<'a>(alloc: Global, tokens: Tokens<'a>) -> Result<(Base, Tokens<'a>), Sto
     }
     let rest = past_word(Word::Static, tokens)?;
     let (path, rest) = path(alloc, rest)?;
-    Ok((Base::Static(path), rest))
+    Ok((Base::Static(Boxed::new(alloc, path)?), rest))
 }
 
 /// A place.

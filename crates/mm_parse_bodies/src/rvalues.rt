@@ -21,6 +21,7 @@ use mm_grammar::sequences::{both, ended};
 use mm_grammar::types::{path_args, ty};
 use mm_lex::{Punct, Token, TokenKind};
 use mm_names::Word;
+use sqlite_items::Boxed;
 use std::alloc::Global;
 
 /// A struct, a closure or a variant with its fields.
@@ -107,6 +108,9 @@ fn dyncast<'a>(alloc: Global, tokens: Tokens<'a>) -> Result<(Rvalue, Tokens<'a>)
 {
     let rest = past_word(Word::Dyncast, tokens)?;
     let ((operand, (ty, of)), rest) = operand_and_target(alloc, rest)?;
+    let operand = Boxed::new(alloc, operand)?;
+    let ty = Boxed::new(alloc, ty)?;
+    let of = Boxed::new(alloc, of)?;
     Ok((Rvalue::Dyn(operand, ty, of), rest))
 }
 
@@ -136,6 +140,8 @@ fn binary<'a>(alloc: Global, tokens: Tokens<'a>) -> Result<(Rvalue, Tokens<'a>),
 {
     let (op, rest) = op(tokens)?;
     let ((left, right), rest) = operand_pair(alloc, rest)?;
+    let left = Boxed::new(alloc, left)?;
+    let right = Boxed::new(alloc, right)?;
     Ok((Rvalue::Binary(op, left, right), rest))
 }
 
@@ -225,7 +231,7 @@ fn built_rvalue<'a>(alloc: Global, tokens: Tokens<'a>) -> Result<(Rvalue, Tokens
     }
     if begins_new(tokens) {
         let (new, rest) = new(alloc, tokens)?;
-        return Ok((Rvalue::New(new), rest));
+        return Ok((Rvalue::New(Boxed::new(alloc, new)?), rest));
     }
     if begins_dyncast(tokens) {
         return dyncast(alloc, tokens);

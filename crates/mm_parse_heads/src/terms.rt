@@ -21,7 +21,7 @@ use mm_grammar::pieces::{
 use mm_grammar::sequences::{ended, listed};
 use mm_lex::{Punct, Token, TokenKind};
 use mm_names::Word;
-use sqlite_items::Items;
+use sqlite_items::{Boxed, Items};
 use std::alloc::Global;
 
 /// How deep constant terms nest at most.
@@ -97,14 +97,20 @@ fn shape<'a>(
     if starts_word(Word::Fn, tokens) {
         let rest = past_word(Word::Fn, tokens)?;
         let (callee, rest) = callee_in_term(alloc, levels, rest)?;
-        return Ok(((TermHead::Fn(callee), Items::new(alloc)), rest));
+        return Ok((
+            (TermHead::Fn(Boxed::new(alloc, callee)?), Items::new(alloc)),
+            rest,
+        ));
     }
     if begins_new_term(tokens) {
         return new_term(alloc, levels, tokens);
     }
     let rest = past_punct(Punct::Ampersand, tokens)?;
     let (path, rest) = path_in_term(alloc, levels, rest)?;
-    Ok(((TermHead::At(path), Items::new(alloc)), rest))
+    Ok((
+        (TermHead::At(Boxed::new(alloc, path)?), Items::new(alloc)),
+        rest,
+    ))
 }
 
 /// Whether the next token begins a struct or a variant.
@@ -127,7 +133,10 @@ fn new_term<'a>(
 {
     let ((of, variant), rest) = new_head_in_term(alloc, levels, tokens)?;
     let (parts, rest) = parts(alloc, levels, rest)?;
-    Ok(((TermHead::New(of, variant), parts), rest))
+    Ok((
+        (TermHead::New(Boxed::new(alloc, of)?, variant), parts),
+        rest,
+    ))
 }
 
 /// Constant terms in parentheses.

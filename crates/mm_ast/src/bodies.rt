@@ -122,8 +122,8 @@ pub enum Step {
 /// An operand.
 #[derive(Drop)]
 pub enum Operand {
-    Copy(Place),
-    Move(Place),
+    Copy(Boxed<Place>),
+    Move(Boxed<Place>),
     Number(u64),
     Bool(bool),
     Const(Boxed<PathWithArgs>),
@@ -148,11 +148,11 @@ pub enum Op {
 pub enum Rvalue {
     Use(Operand),
     /// The address of a place.
-    Ref(Place),
+    Ref(Boxed<Place>),
     Not(Operand),
     Binary(Op, Boxed<Operand>, Boxed<Operand>),
     /// The number of the active variant of an enum.
-    Variant(Place),
+    Variant(Boxed<Place>),
     /// The operand in a new box.
     Boxed(Operand),
     Tuple(Items<Operand>),

@@ -25,8 +25,8 @@ fn load_operand(operand: &ast::Operand) -> Operand
     ensures { result ≡ operand_of operand.now }
 {
     match operand {
-        ast::Operand::Copy(place) => Operand::Copy(load_place(place)),
-        ast::Operand::Move(place) => Operand::Move(load_place(place)),
+        ast::Operand::Copy(place) => Operand::Copy(load_place(place.get())),
+        ast::Operand::Move(place) => Operand::Move(load_place(place.get())),
         ast::Operand::Number(number) => Operand::Num(*number),
         ast::Operand::Bool(truth) => Operand::Truth(*truth),
         ast::Operand::Const(_) | ast::Operand::Fn(_) => Operand::Num(0),

@@ -93,7 +93,7 @@ fn built_operand(operand: &ast::Operand) -> bool
     ensures { result ≡ built_operand operand.now }
 {
     match operand {
-        ast::Operand::Copy(place) | ast::Operand::Move(place) => built_place(place),
+        ast::Operand::Copy(place) | ast::Operand::Move(place) => built_place(place.get()),
         ast::Operand::Number(_) | ast::Operand::Bool(_) => true,
         ast::Operand::Const(_) | ast::Operand::Fn(_) => false,
     }

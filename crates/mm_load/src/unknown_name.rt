@@ -84,7 +84,9 @@ fn check_operand(function: &ast::Function, operand: &ast::Operand) -> Result<(),
     ensures { Reports UnknownName (unknown_in_operand function.now operand.now) result }
 {
     match operand {
-        ast::Operand::Copy(place) | ast::Operand::Move(place) => check_place(function, place),
+        ast::Operand::Copy(place) | ast::Operand::Move(place) => {
+            check_place(function, place.get())
+        }
         ast::Operand::Number(_)
         | ast::Operand::Bool(_)
         | ast::Operand::Const(_)

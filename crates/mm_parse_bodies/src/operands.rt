@@ -28,12 +28,12 @@ pub fn operand<'a>(alloc: Global, tokens: Tokens<'a>) -> Result<(Operand, Tokens
     if starts_word(Word::Copy, tokens) {
         let rest = past_word(Word::Copy, tokens)?;
         let (place, rest) = place(alloc, rest)?;
-        return Ok((Operand::Copy(place), rest));
+        return Ok((Operand::Copy(Boxed::new(alloc, place)?), rest));
     }
     if starts_word(Word::Move, tokens) {
         let rest = past_word(Word::Move, tokens)?;
         let (place, rest) = place(alloc, rest)?;
-        return Ok((Operand::Move(place), rest));
+        return Ok((Operand::Move(Boxed::new(alloc, place)?), rest));
     }
     if starts_number(tokens) {
         let (number, rest) = number(tokens)?;

@@ -196,7 +196,7 @@ pub fn rvalue<'a>(alloc: Global, tokens: Tokens<'a>) -> Result<(Rvalue, Tokens<'
     if starts_punct(Punct::Ampersand, tokens) {
         let rest = past_punct(Punct::Ampersand, tokens)?;
         let (place, rest) = place(alloc, rest)?;
-        return Ok((Rvalue::Ref(place), rest));
+        return Ok((Rvalue::Ref(Boxed::new(alloc, place)?), rest));
     }
     if starts_word(Word::Not, tokens) {
         let rest = past_word(Word::Not, tokens)?;
@@ -209,7 +209,7 @@ pub fn rvalue<'a>(alloc: Global, tokens: Tokens<'a>) -> Result<(Rvalue, Tokens<'
     if starts_word(Word::Variant, tokens) {
         let rest = past_word(Word::Variant, tokens)?;
         let (place, rest) = one_place(alloc, rest)?;
-        return Ok((Rvalue::Variant(place), rest));
+        return Ok((Rvalue::Variant(Boxed::new(alloc, place)?), rest));
     }
     built_rvalue(alloc, tokens)
 }

@@ -4,8 +4,12 @@ use Rattle.std.proofs.lemmas.Bool.{and_parts, not-true}
 use Rattle.mm_forms.specs.declared.fault.Fault.{Fault}
 use Rattle.mm_forms.specs.Language.{Opens}
 use Rattle.mm_forms.specs.Forms.{Form, Nothing, Token, Preceded, Terminated, Numbered, Then, Or, Many, ManyNumbered, ManyBelow, Map, At, Below, Inner, has, apart, Read, spells, crosses, empty, firsts, reads, more, decides}
-use Rattle.mm_forms.proofs.Laws.{Law, law_nothing, law_token, law_then, law_or, law_made, law_at, law_flag}
-use Rattle.mm_forms.proofs.Parts.{law_skip, law_close, law_count, law_all, law_many, law_below}
+use Rattle.mm_forms.proofs.Laws.{Law, law_nothing, law_made, law_flag}
+use Rattle.mm_forms.proofs.TwoParts.{law_then, law_or}
+use Rattle.mm_forms.proofs.TokenLaws.{law_token, law_at}
+use Rattle.mm_forms.proofs.Parts.{law_skip, law_close, law_count}
+use Rattle.mm_forms.proofs.Repetitions.{law_all, law_many}
+use Rattle.mm_forms.proofs.Limits.{law_below}
 
 module _ {T : Type 0} (kind number_of : T → ℕ) {S : Type 0} {V : S → Type 0} (start goes_on : S → List ℕ) (is_kind is_counted : ℕ → Bool) (known : S → Bool)
     (sample : (n : ℕ) → is_kind n ≡ true → (t : T) × (kind t ≡ n))

@@ -1,6 +1,12 @@
 pub mod Loops
+pub mod Numbers
+pub mod Fronts
 pub mod Laws
+pub mod TwoParts
+pub mod TokenLaws
 pub mod Parts
+pub mod Repetitions
+pub mod Limits
 pub mod FormLaws
 pub mod Spellings
 pub mod Openings

@@ -6,7 +6,9 @@ use Rattle.mm_forms.specs.declared.fault.Fault.TheVariants.{Unfit, TooDeep}
 use Rattle.mm_forms.specs.Language.{Opens}
 use Rattle.mm_forms.specs.Forms.{Form, Read, has, begins, decides, firsts, empty, more, spells, crosses, reads}
 use Rattle.mm_forms.specs.Nesting.{within, Nested, beyond, none_in, within_in}
-use Rattle.mm_forms.proofs.Laws.{Law, Begins, Leads, Told, alike_behind, begins_alike, nothing_before, err_same, law_same, law_flag, subset, stops_subset}
+use Rattle.mm_forms.proofs.Numbers.{subset}
+use Rattle.mm_forms.proofs.Fronts.{Leads, Told, alike_behind, nothing_before, err_same}
+use Rattle.mm_forms.proofs.Laws.{Law, Begins, begins_alike, law_same, law_flag, stops_subset}
 use Rattle.mm_forms.proofs.FormLaws.{law_form}
 use Rattle.mm_forms.proofs.Spellings.{wider, together, splits, Crossing, begun_form}
 use Rattle.mm_forms.proofs.Openings.{ends, free, some_form, opens_form}

@@ -3,7 +3,9 @@ use Rattle.std.proofs.Common.{◌≡◌, inl, inr, ℕ, List, [], ◌∷◌, ◌
 use Rattle.std.proofs.lemmas.Bool.{eqb-true, or_cases, or_left, and_parts, not-true, both_ways}
 use Rattle.mm_forms.specs.Language.{each, Opens}
 use Rattle.mm_forms.specs.Forms.{Form, Nothing, Token, Preceded, Terminated, Numbered, Then, Or, Many, ManyNumbered, ManyBelow, Map, At, Below, Inner, has, apart, Token_of, spells, empty, firsts, more, decides}
-use Rattle.mm_forms.proofs.Laws.{Begins, Leads, has_either}
+use Rattle.mm_forms.proofs.Numbers.{has_either}
+use Rattle.mm_forms.proofs.Fronts.{Leads}
+use Rattle.mm_forms.proofs.Laws.{Begins}
 use Rattle.mm_forms.proofs.Spellings.{begun_form}
 
 -- whether something spells the form, where something spells each of these sorts

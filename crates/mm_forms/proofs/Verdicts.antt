@@ -4,7 +4,8 @@ use Rattle.mm_forms.specs.declared.fault.Fault.{Fault}
 use Rattle.mm_forms.specs.declared.fault.Fault.TheVariants.{Unfit, TooMany, TooDeep}
 use Rattle.mm_forms.specs.Forms.{Read}
 use Rattle.mm_forms.specs.Verdict.{GoesOn, EndsThere, IsUnfit, IsPast, IsFault, whole_in, only_if_done}
-use Rattle.mm_forms.proofs.Laws.{Law, Leads, Stops, bind_ok, bind_err, bind_stops, ok_same, err_same}
+use Rattle.mm_forms.proofs.Fronts.{Leads, bind_ok, bind_err, bind_stops, ok_same, err_same}
+use Rattle.mm_forms.proofs.Laws.{Law, Stops}
 use Rattle.mm_forms.proofs.Spellings.{Crossing}
 
 module _ {T A : Type 0} (kind : T → ℕ) {L B : A → List T → Type 0} {C : Fault → List T → Type 0} {read : List T → Read T A} {f m : List ℕ} {e : _}

@@ -3,7 +3,8 @@ use Rattle.std.proofs.Common.{◌≡◌, inl, inr, ℕ, ◌+◌, Bool, true, fal
 use Rattle.std.proofs.lemmas.Bool.{and_parts, or_left, or_right, not-true, eqb-true, eq-eqb}
 use Rattle.mm_forms.specs.Language.{Joined, each}
 use Rattle.mm_forms.specs.Forms.{Form, Nothing, Token, Preceded, Terminated, Numbered, Then, Or, Many, ManyNumbered, ManyBelow, Map, At, Below, Inner, Token_of, has, empty, firsts, spells}
-use Rattle.mm_forms.proofs.Laws.{Begins, begins_joined, has_left, has_right, has_either, subset}
+use Rattle.mm_forms.proofs.Numbers.{has_left, has_right, has_either, subset}
+use Rattle.mm_forms.proofs.Laws.{Begins, begins_joined}
 use Rattle.mm_forms.proofs.Parts.{never_empty}
 use Rattle.mm_print.specs.Neighbours.{apart_in, lasts, never}
 

@@ -11,7 +11,8 @@ use Rattle.mm_forms.specs.Forms.{decides}
 use Rattle.mm_forms.proofs.Nesting.{Fits}
 use Rattle.mm_grammar.specs.Codes.{kind_code, code}
 use Rattle.mm_grammar.specs.Rules.{Sort, Types, Terms, Modules, number_of}
-use Rattle.mm_grammar.specs.Grammar.{otherwise, switch_head, cases, call_place, arguments, called_with, end_with_parts, block_end, body_blocks, dyn_target, some_types, path_shape, called_method, named_operand, binary, variant_name, built_rvalue, name, next_name, more_names, params, next_type, more_types, args, segment, more_segments, segments, path, path_args, tys, fields, tuple, reference, boxed, fn_pointer, behind_krate, named, shape, type_node, label, step, steps, base, place, call_method, trait_method, method_callee, callee, operand, next_operand, more_operands, operands, op, two_operands, new_head, new, dyn_trait, dyncast, rvalue, set, statement, statements, arm, arms, switch, called, call, drop_end, end, block, more_blocks, blocks, declared, lets, body, next_term, more_terms, parts, new_term, term_shape, term_node}
+use Rattle.mm_grammar.specs.Grammar.{otherwise, switch_head, cases, call_place, arguments, called_with, end_with_parts, block_end, body_blocks, dyn_target, some_types, path_shape, called_method, named_operand, binary, variant_name, built_rvalue, name, next_name, more_names, params, next_type, more_types, args, segment, more_segments, segments, path, path_args, tys, fields, tuple, reference, boxed, fn_pointer, behind_krate, named, shape, type_node, label, step, steps, base, place, call_method, trait_method, method_callee, callee, operand, next_operand, more_operands, operands, op, two_operands, new_head, new, dyn_trait, dyncast, rvalue, set, statement, statements, arm, arms, switch, called, call, drop_end, end, block, more_blocks, blocks, declared, lets, body}
+use Rattle.mm_grammar.specs.TermGrammar.{next_term, more_terms, parts, new_term, term_shape, term_node}
 use Rattle.mm_grammar.specs.ItemGrammar.{some_params, some_bounds, bounded, generic, fn_name, capturing, generic_capturing, struct_fields, generic_fields, some_variants, generic_variants, trait_methods, generic_methods, value_term, generic_term, drop_param, drop_fn, drop_braces, bounded_drop, impl_braces, bounded_methods, impl_target, impl_form, value_definition, crate_name, next_param, more_params, param_types, result_type, signature, bound_form, bound, next_bound, more_bounds, bounds, fn_head, function, captures, closure_head, closure, field_types, struct_item, variant, next_variant, more_variants, variants, enum_item, method_body, method, methods, trait_item, typed_term, static_item, const_item, drop_method, drop_impl, impl_method, impl_methods, trait_impl, impl_item, definition_form, definition, module_entry, entry, item, more_items, braces, krate, more_crates, crates}
 use Rattle.mm_grammar.specs.Reading.{start}
 

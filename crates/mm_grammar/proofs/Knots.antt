@@ -9,7 +9,8 @@ use Rattle.mm_forms.proofs.Spellings.{Crossing}
 use Rattle.mm_forms.proofs.Nesting.{Part, Sorted, itself, there, absent, nests_law, form_law, form_split}
 use Rattle.mm_grammar.specs.Codes.{code}
 use Rattle.mm_grammar.specs.Rules.{Sort, Types, Terms, Modules, number_of}
-use Rattle.mm_grammar.specs.Grammar.{type_node, term_node}
+use Rattle.mm_grammar.specs.Grammar.{type_node}
+use Rattle.mm_grammar.specs.TermGrammar.{term_node}
 use Rattle.mm_grammar.specs.ItemGrammar.{braces, crates}
 use Rattle.mm_grammar.specs.Reading.{start, type_languages, is_type, type_crossings, type_readers, type_in, term_languages, is_term, term_crossings, term_readers, term_in, module_languages, in_braces, module_crossings, module_readers, braces_in, languages, crossings, readers, read, IsText, IsAnyText, IsPastLimit}
 use Rattle.mm_grammar.proofs.Deciding.{is_kind, is_counted, sample, counted, goes_on, no_sort, types_only, types_and_terms, all_sorts, type_fits, term_fits, braces_fits, text_decided}

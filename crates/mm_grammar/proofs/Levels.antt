@@ -2,7 +2,8 @@
 use Rattle.std.proofs.Common.{◌≡◌, ℕ, zero, suc, ◌-◌, List, refl, sym, ap, arith}
 use Rattle.mm_lex.specs.Lexemes.{Lexeme}
 use Rattle.mm_forms.specs.Nesting.{within_in}
-use Rattle.mm_grammar.specs.Grammar.{type_node, term_node}
+use Rattle.mm_grammar.specs.Grammar.{type_node}
+use Rattle.mm_grammar.specs.TermGrammar.{term_node}
 use Rattle.mm_grammar.specs.Reading.{read_in_type, read_in_term, type_in, term_in, no_type, no_term}
 
 pub no_type_level : (n : ℕ) (ts : List Lexeme) → n ≡ 0 → type_in n ts ≡ no_type ts

@@ -1,19 +1,15 @@
 -- The grammar of the text language. Over each part stands its rule. Braces repeat, square brackets make optional, quoted words
 -- are tokens. A list has the rule of what stands behind its first part as a rule of its own.
-use Rattle.std.specs.Prelude.{ℕ, ◌+◌, List, [], ◌∷◌, ◌++◌, length, Bool, true, false, Option, Some, None}
+use Rattle.std.specs.Prelude.{ℕ, List, [], ◌∷◌, ◌++◌, true, false, Option, Some, None}
 use Rattle.mm_names.specs.declared.word.Word.TheVariants as words
 use Rattle.mm_lex.specs.declared.punct.Punct.TheVariants as puncts
 use Rattle.mm_ast.specs.declared.names.Name.{Name}
 use Rattle.mm_ast.specs.declared.names.Path.{Path}
 use Rattle.mm_ast.specs.declared.names.PathWithArgs.{PathWithArgs}
 use Rattle.mm_ast.specs.declared.types.Type as types
-use Rattle.mm_ast.specs.declared.types.Type.TheViews.{roll-Type, out-Type}
+use Rattle.mm_ast.specs.declared.types.Type.TheViews.{roll-Type}
 use Rattle.mm_ast.specs.declared.types.Head.{Head}
 use Rattle.mm_ast.specs.declared.types.Head.TheVariants as heads
-use Rattle.mm_ast.specs.declared.terms.Term as terms
-use Rattle.mm_ast.specs.declared.terms.Term.TheViews.{roll-Term}
-use Rattle.mm_ast.specs.declared.terms.TermHead.{TermHead}
-use Rattle.mm_ast.specs.declared.terms.TermHead.TheVariants as term_heads
 use Rattle.mm_ast.specs.declared.bodies.Label.{Label}
 use Rattle.mm_ast.specs.declared.bodies.Place.{Place}
 use Rattle.mm_ast.specs.declared.bodies.Base.{Base}
@@ -22,7 +18,6 @@ use Rattle.mm_ast.specs.declared.bodies.Step.{Step}
 use Rattle.mm_ast.specs.declared.bodies.Step.TheVariants as steps_
 use Rattle.mm_ast.specs.declared.bodies.Callee.{Callee}
 use Rattle.mm_ast.specs.declared.bodies.Callee.TheVariants as callees
-use Rattle.mm_ast.specs.declared.bodies.MethodCallee.{MethodCallee}
 use Rattle.mm_ast.specs.declared.bodies.Operand.{Operand}
 use Rattle.mm_ast.specs.declared.bodies.Operand.TheVariants as operands_
 use Rattle.mm_ast.specs.declared.bodies.Op.{Op}
@@ -44,7 +39,7 @@ use Rattle.mm_ast.specs.declared.bodies.Block.{Block}
 use Rattle.mm_ast.specs.declared.bodies.Body.{Body}
 use Rattle.mm_grammar.specs.declared.heads.TraitMethod.{TraitMethod}
 use Rattle.mm_forms.specs.Forms.{Nothing, Numbered, Then, Many, ManyBelow, Map, At, Inner}
-use Rattle.mm_grammar.specs.Rules.{Types, Terms, Modules, Rule, line_of, word, punct, ends, ◌⋅◌, ◌or◌, bare, flag, optional, list, closed, in_angles, in_parens, text, local, label_number, number}
+use Rattle.mm_grammar.specs.Rules.{Types, Rule, line_of, word, punct, ends, ◌⋅◌, ◌or◌, bare, optional, list, closed, in_angles, in_parens, text, local, label_number, number}
 
 -- names and paths
 
@@ -395,40 +390,3 @@ body_blocks = ends puncts.CloseBrace blocks
 -- body = "{" { "let" local ":" ty ";" } block { block } "}" . The first local that is declared has the number that is wanted.
 unfoldable pub body : Rule Body
 body = Map (λ p. record { lets = p.0; blocks = p.1 }) (punct puncts.OpenBrace (lets ⋅ body_blocks))
-
--- terms
-
-abbrev pub term : Rule terms.Term
-term = Inner Terms
-
--- the head of a constant term and its parts
-abbrev pub TermShape : Type 0
-TermShape = TermHead × List terms.Term
-
-unfoldable pub next_term : Rule terms.Term
-next_term = punct puncts.Comma term
-
-unfoldable pub more_terms : Rule (List terms.Term)
-more_terms = Many next_term
-
--- terms = [ term { "," term } ] . Here in its parentheses.
-unfoldable pub parts : Rule (List terms.Term)
-parts = punct puncts.Open (closed puncts.Close (list term more_terms))
-
--- "new" path args [ "." name ] "(" terms ")"
-unfoldable pub new_term : Rule TermShape
-new_term = Map (λ p. (term_heads.New p.0.0 p.0.1, p.1)) (new_head ⋅ parts)
-
--- term = number | "true" | "false" | "tuple" "(" terms ")" | "fn" callee | "new" path args [ "." name ] "(" terms ")" | "&" path .
-unfoldable pub term_shape : Rule TermShape
-term_shape =
-    Map (λ n. (term_heads.Number n, [])) number
-    or bare words.True (term_heads.Bool true, [])
-    or bare words.False (term_heads.Bool false, [])
-    or Map (λ ts. (term_heads.Tuple, ts)) (word words.Tuple parts)
-    or Map (λ c. (term_heads.Fn c, [])) (word words.Fn callee)
-    or new_term
-    or Map (λ p. (term_heads.At p, [])) (punct puncts.Ampersand path)
-
-unfoldable pub term_node : Rule terms.Term
-term_node = Map (λ p. roll-Term (record { line = p.0; head = p.1.0; parts = p.1.1 })) (At line_of term_shape)

@@ -42,7 +42,8 @@ use Rattle.mm_grammar.specs.declared.heads.ClosureHead.{ClosureHead}
 use Rattle.mm_grammar.specs.declared.heads.DropMethod.{DropMethod}
 use Rattle.mm_forms.specs.Forms.{Nothing, Then, Many, ManyNumbered, Map, At, Below, Inner}
 use Rattle.mm_grammar.specs.Rules.{Types, Modules, Rule, line_of, word, punct, ends, ◌⋅◌, ◌or◌, bare, flag, optional, list, closed, in_parens}
-use Rattle.mm_grammar.specs.Grammar.{name, params, ty, some_types, tys, path_args, body, term}
+use Rattle.mm_grammar.specs.Grammar.{name, params, ty, some_types, tys, path_args, body}
+use Rattle.mm_grammar.specs.TermGrammar.{term}
 
 -- "," ty, as one parameter more. There are at most 65,534.
 unfoldable pub next_param : Rule types.«Type»

@@ -3,6 +3,7 @@ pub mod Seen
 pub mod Sequences
 pub mod Rules
 pub mod Grammar
+pub mod TermGrammar
 pub mod ItemGrammar
 pub mod Reading
 pub mod Faults

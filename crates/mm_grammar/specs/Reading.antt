@@ -16,7 +16,8 @@ use Rattle.mm_forms.specs.Forms.{Read, begins, firsts, spells, crosses, reads}
 use Rattle.mm_forms.specs.Nesting.{nests, beyond, within_in, none_in}
 use Rattle.mm_grammar.specs.Codes.{kind_code, code}
 use Rattle.mm_grammar.specs.Rules.{Sort, Types, Terms, Modules, Value, Rule, number_of}
-use Rattle.mm_grammar.specs.Grammar.{type_node, term_node}
+use Rattle.mm_grammar.specs.Grammar.{type_node}
+use Rattle.mm_grammar.specs.TermGrammar.{term_node}
 use Rattle.mm_grammar.specs.ItemGrammar.{braces, crates}
 
 -- the kinds of tokens with which a type, a constant term, and what stands in braces begin

@@ -4,7 +4,8 @@ ghost use Rattle.mm_forms.specs.Given.{Gives, Stops};
 ghost use Rattle.mm_lex.specs.Lexemes as kinds;
 ghost use Rattle.mm_lex.specs.Lexemes.{kind_by, span};
 ghost use Rattle.mm_grammar.specs.Codes.{code, kind_code};
-ghost use Rattle.mm_grammar.specs.Grammar.{callee, more_terms, new_head, new_term, next_term, parts, path, term_node, term_shape};
+ghost use Rattle.mm_grammar.specs.Grammar.{callee, new_head, path};
+ghost use Rattle.mm_grammar.specs.TermGrammar.{more_terms, new_term, next_term, parts, term_node, term_shape};
 ghost use Rattle.mm_grammar.specs.Reading.{begun, no_term, read_in_term, start, term_in};
 ghost use Rattle.mm_grammar.specs.Rules.{Terms};
 ghost use Rattle.mm_grammar.specs.Seen.{seen};
@@ -58,7 +59,7 @@ fn no_level(tokens: Tokens<'_>) -> Stop
 
 /// A constant term whose parts nest no deeper than so many levels.
 #[cycle(terms)]
-#[tactic(auto, unfolding(mm_grammar::specs::Grammar::term_node))]
+#[tactic(auto, unfolding(mm_grammar::specs::TermGrammar::term_node))]
 fn node<'a>(alloc: Global, levels: u32, tokens: Tokens<'a>) -> Result<(Term, Tokens<'a>), Stop>
     ensures { Gives (λ x. (x.0, seen x.1)) result (read_in_term levels term_node (seen tokens.entry)) }
 {
@@ -69,7 +70,7 @@ fn node<'a>(alloc: Global, levels: u32, tokens: Tokens<'a>) -> Result<(Term, Tok
 
 /// The head of a constant term and its parts, which nest no deeper than so many levels.
 #[cycle(terms)]
-#[tactic(auto, unfolding(mm_grammar::specs::Grammar::term_shape))]
+#[tactic(auto, unfolding(mm_grammar::specs::TermGrammar::term_shape))]
 fn shape<'a>(
     alloc: Global,
     levels: u32,
@@ -114,7 +115,7 @@ fn shape<'a>(
 }
 
 /// Whether the next token begins a struct or a variant.
-#[tactic(auto, unfolding(mm_grammar::specs::Grammar::new_term, mm_grammar::specs::Grammar::new_head))]
+#[tactic(auto, unfolding(mm_grammar::specs::TermGrammar::new_term, mm_grammar::specs::Grammar::new_head))]
 fn begins_new_term(tokens: Tokens<'_>) -> bool
     ensures { result ≡ begun new_term (seen tokens.entry) }
 {
@@ -123,7 +124,7 @@ fn begins_new_term(tokens: Tokens<'_>) -> bool
 
 /// A struct or a variant with its parts.
 #[cycle(terms)]
-#[tactic(auto, unfolding(mm_grammar::specs::Grammar::new_term))]
+#[tactic(auto, unfolding(mm_grammar::specs::TermGrammar::new_term))]
 fn new_term<'a>(
     alloc: Global,
     levels: u32,
@@ -141,7 +142,7 @@ fn new_term<'a>(
 
 /// Constant terms in parentheses.
 #[cycle(terms)]
-#[tactic(auto, unfolding(mm_grammar::specs::Grammar::parts))]
+#[tactic(auto, unfolding(mm_grammar::specs::TermGrammar::parts))]
 fn parts<'a>(
     alloc: Global,
     levels: u32,
@@ -161,7 +162,7 @@ fn parts<'a>(
 
 /// The constant terms behind the first one.
 #[cycle(terms)]
-#[tactic(auto, unfolding(mm_grammar::specs::Grammar::more_terms))]
+#[tactic(auto, unfolding(mm_grammar::specs::TermGrammar::more_terms))]
 fn more_terms<'a>(
     alloc: Global,
     levels: u32,
@@ -183,7 +184,7 @@ fn more_terms<'a>(
 }
 
 /// Whether the next token begins a comma and a constant term.
-#[tactic(auto, unfolding(mm_grammar::specs::Grammar::next_term))]
+#[tactic(auto, unfolding(mm_grammar::specs::TermGrammar::next_term))]
 fn begins_next_term(tokens: Tokens<'_>) -> bool
     ensures { result ≡ begun next_term (seen tokens.entry) }
 {
@@ -192,7 +193,7 @@ fn begins_next_term(tokens: Tokens<'_>) -> bool
 
 /// A comma and a constant term.
 #[cycle(terms)]
-#[tactic(auto, unfolding(mm_grammar::specs::Grammar::next_term))]
+#[tactic(auto, unfolding(mm_grammar::specs::TermGrammar::next_term))]
 fn next_term<'a>(alloc: Global, levels: u32, tokens: Tokens<'a>) -> Result<(Term, Tokens<'a>), Stop>
     ensures { Gives (λ x. (x.0, seen x.1)) result (read_in_term levels next_term (seen tokens.entry)) }
 {

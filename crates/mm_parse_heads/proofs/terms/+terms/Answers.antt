@@ -3,7 +3,7 @@ use Rattle.mm_forms.specs.Given.{Gives, Stops}
 use Rattle.mm_forms.proofs.Loops.{each_step}
 use Rattle.mm_grammar.specs.Codes.{code}
 use Rattle.mm_grammar.specs.Seen.{seen}
-use Rattle.mm_grammar.specs.Grammar.{next_term, parts}
+use Rattle.mm_grammar.specs.TermGrammar.{next_term, parts}
 use Rattle.mm_grammar.specs.Reading.{begun, read_in_term}
 use Rattle.mm_grammar.proofs.Levels.{no_term_level, one_term_level}
 use Rattle.mm_parse_heads.proofs.terms.+terms.Goals as goal

@@ -3,7 +3,7 @@ use Rattle.mm_forms.specs.Forms.{each_in}
 use Rattle.mm_forms.proofs.Loops.{with_front}
 use Rattle.mm_grammar.specs.Codes.{code}
 use Rattle.mm_grammar.specs.Seen.{seen}
-use Rattle.mm_grammar.specs.Grammar.{next_term, more_terms}
+use Rattle.mm_grammar.specs.TermGrammar.{next_term, more_terms}
 use Rattle.mm_grammar.specs.Reading.{begun, read_in_term}
 use Rattle.mm_parse_heads.proofs.terms.+terms.Given as goal
 

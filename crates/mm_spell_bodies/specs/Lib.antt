@@ -1,0 +1,2 @@
+pub mod BodyTokens
+pub mod TermTokens

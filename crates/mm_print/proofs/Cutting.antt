@@ -15,7 +15,8 @@ use Rattle.mm_lex.specs.Positions.{past}
 use Rattle.mm_lex.specs.Tokens.{lexemes_from}
 use Rattle.mm_print.specs.declared.gap.Gap as gaps
 use Rattle.mm_print.specs.declared.gap.Gap.TheVariants.{LineFeed, Nothing, OneBlank}
-use Rattle.mm_print.specs.Canonical.{ends_line, holds_next, holds_last, passes, punct_of, gap_of, pieces_in, behind, parted, puncts_join, join, NoneJoin, AllTokens, kinds_of}
+use Rattle.mm_shape.specs.Shapes.{AllTokens, kinds_of}
+use Rattle.mm_print.specs.Canonical.{ends_line, holds_next, holds_last, passes, punct_of, gap_of, pieces_in, behind, parted, puncts_join, join, NoneJoin}
 
 -- a character that no name and no number goes on with
 pub record IsQuiet (c : ℕ) : Type 0 where

@@ -18,7 +18,8 @@ use Rattle.mm_grammar.specs.Reading.{start, type_languages, term_languages, modu
 use Rattle.mm_grammar.specs.Grammar.{otherwise, switch_head, cases, call_place, arguments, called_with, end_with_parts, block_end, body_blocks, dyn_target, some_types, path_shape, called_method, named_operand, binary, variant_name, built_rvalue, name, next_name, more_names, params, next_type, more_types, args, segment, more_segments, segments, path, path_args, tys, fields, tuple, reference, boxed, fn_pointer, behind_krate, named, shape, type_node, label, step, steps, base, place, call_method, trait_method, method_callee, callee, operand, next_operand, more_operands, operands, op, two_operands, new_head, new, dyn_trait, dyncast, rvalue, set, statement, statements, arm, arms, switch, called, call, drop_end, end, block, more_blocks, blocks, declared, lets, body}
 use Rattle.mm_grammar.specs.TermGrammar.{next_term, more_terms, parts, new_term, term_shape, term_node}
 use Rattle.mm_grammar.specs.ItemGrammar.{some_params, some_bounds, bounded, generic, fn_name, capturing, generic_capturing, struct_fields, generic_fields, some_variants, generic_variants, trait_methods, generic_methods, value_term, generic_term, drop_param, drop_fn, drop_braces, bounded_drop, impl_braces, bounded_methods, impl_target, impl_form, value_definition, crate_name, next_param, more_params, param_types, result_type, signature, bound_form, bound, next_bound, more_bounds, bounds, fn_head, function, captures, closure_head, closure, field_types, struct_item, variant, next_variant, more_variants, variants, enum_item, method_body, method, methods, trait_item, typed_term, static_item, const_item, drop_method, drop_impl, impl_method, impl_methods, trait_impl, impl_item, definition_form, definition, module_entry, entry, item, more_items, braces, krate, more_crates, crates}
-use Rattle.mm_print.specs.Canonical.{AllTokens, NoneJoin, ReadsAs, canonical, join, kinds_of, puncts_join}
+use Rattle.mm_shape.specs.Shapes.{AllTokens, kinds_of}
+use Rattle.mm_print.specs.Canonical.{NoneJoin, ReadsAs, canonical, join, puncts_join}
 use Rattle.mm_print.specs.Neighbours.{apart_in, lasts, never}
 use Rattle.mm_print.proofs.Neighbours.{Edges, edges, has_all, wider}
 use Rattle.mm_print.proofs.Written.{reads_as}
@@ -168,7 +169,7 @@ none_join (t ∷ next ∷ ts) a b c =
     let z = and_parts (not (eqb (code t) equals && eqb (code next) greater)) (apart_in code equals greater (next ∷ ts)) c in
     (pair t.kind next.kind x.0 y.0 z.0, none_join (next ∷ ts) x.1 y.1 z.1)
 
-all_tokens : (ts : List Lexeme) → All IsLexeme ts → AllTokens (kinds_of ts)
+pub all_tokens : (ts : List Lexeme) → All IsLexeme ts → AllTokens (kinds_of ts)
 all_tokens [] all = tt
 all_tokens (t ∷ ts) all = (All-head IsLexeme t ts all, all_tokens ts (All-tail IsLexeme t ts all))
 

@@ -1,4 +1,15 @@
+pub mod ItemLemmas
 pub mod Cutting
 pub mod Written
+pub mod Printed
 pub mod Neighbours
 pub mod Joining
+pub mod TypeWriting
+pub mod BodyWriting
+pub mod TermWriting
+pub mod Units
+pub mod FunctionWriting
+pub mod ItemWriting
+pub mod TreeWriting
+pub mod Canonicals
+pub mod Back

@@ -25,7 +25,8 @@ use Rattle.mm_lex.specs.Tokens.{AreTokensOf, tokens_from}
 use Rattle.mm_lex.proofs.TextLaws.{AreTokensOf-one, lexemes-pieces}
 use Rattle.mm_print.specs.declared.gap.Gap as gaps
 use Rattle.mm_print.specs.declared.gap.Gap.TheVariants.{LineFeed, Nothing, OneBlank}
-use Rattle.mm_print.specs.Canonical.{ends_line, passes, punct_of, gap_of, pieces_in, behind, parted, canonical, AllTokens, NoneJoin, kinds_of, ReadsAs}
+use Rattle.mm_shape.specs.Shapes.{AllTokens, kinds_of}
+use Rattle.mm_print.specs.Canonical.{ends_line, passes, punct_of, gap_of, pieces_in, behind, parted, canonical, NoneJoin, ReadsAs}
 use Rattle.mm_print.proofs.Cutting.{cut, kinds_stay}
 
 -- the characters have bytes, and these have the characters
@@ -51,19 +52,21 @@ kept_ascii : (cs : List ℕ) → IsAscii cs → AreKept cs
 kept_ascii cs ascii = subst AreKept (chars-IsAscii cs ascii) (kept_chars cs (IsUtf8-from_ascii cs ascii))
 
 -- of characters below 128
+pub small_ascii : (cs : List ℕ) → list_all (λ c. ltb c 128) cs ≡ true → IsAscii cs
+small_ascii cs small = IsAscii-from_all cs (All-weaker (λ c. ltb c 128 ≡ true) (λ c. c < 128) (λ c is. ltb-true c 128 is) cs (AllPass-from_list_all (λ c. ltb c 128) cs small))
+
 kept_small : (cs : List ℕ) → list_all (λ c. ltb c 128) cs ≡ true → AreKept cs
-kept_small cs small =
-    kept_ascii cs (IsAscii-from_all cs (All-weaker (λ c. ltb c 128 ≡ true) (λ c. c < 128) (λ c is. ltb-true c 128 is) cs (AllPass-from_list_all (λ c. ltb c 128) cs small)))
+kept_small cs small = kept_ascii cs (small_ascii cs small)
 
 kept_decimal : (n : ℕ) → n < 2 ^ 64 → AreKept (decimal n)
 kept_decimal n small = kept_ascii (decimal n) (IsAscii-decimal n small)
 
-kept_word : (cs : List ℕ) → is_ascii_word cs ≡ true → AreKept cs
-kept_word [] is = kept_nil
-kept_word (c ∷ cs) is =
+pub word_ascii : (cs : List ℕ) → is_ascii_word cs ≡ true → IsAscii cs
+word_ascii [] is = small_ascii [] refl
+word_ascii (c ∷ cs) is =
     let parts = and_parts (is_ascii_alphabetic c) (list_all is_ascii_alphanumeric cs) is in
-    kept_ascii (c ∷ cs) (IsAscii-from_all (c ∷ cs) (All-cons (λ d. d < 128) c cs (letter parts.0)
-    (All-weaker (λ d. is_ascii_alphanumeric d ≡ true) (λ d. d < 128) other cs (AllPass-from_list_all is_ascii_alphanumeric cs parts.1))))
+    IsAscii-from_all (c ∷ cs) (All-cons (λ d. d < 128) c cs (letter parts.0)
+    (All-weaker (λ d. is_ascii_alphanumeric d ≡ true) (λ d. d < 128) other cs (AllPass-from_list_all is_ascii_alphanumeric cs parts.1)))
   where
     letter : is_ascii_alphabetic c ≡ true → c < 128
     letter h = grind (arith, nat_tests)
@@ -71,34 +74,34 @@ kept_word (c ∷ cs) is =
     other : (d : ℕ) → is_ascii_alphanumeric d ≡ true → d < 128
     other d h = grind (arith, nat_tests)
 
-kept_punct : (p : puncts.Punct) → AreKept (punct_spelling p)
-kept_punct punct.PathSep = kept_small (codes "::") refl
-kept_punct punct.Arrow = kept_small (codes "->") refl
-kept_punct punct.FatArrow = kept_small (codes "=>") refl
-kept_punct punct.Open = kept_small (codes "(") refl
-kept_punct punct.Close = kept_small (codes ")") refl
-kept_punct punct.OpenBrace = kept_small (codes "{") refl
-kept_punct punct.CloseBrace = kept_small (codes "}") refl
-kept_punct punct.OpenBracket = kept_small (codes "[") refl
-kept_punct punct.CloseBracket = kept_small (codes "]") refl
-kept_punct punct.Less = kept_small (codes "<") refl
-kept_punct punct.Greater = kept_small (codes ">") refl
-kept_punct punct.Comma = kept_small (codes ",") refl
-kept_punct punct.Semicolon = kept_small (codes ";") refl
-kept_punct punct.Colon = kept_small (codes ":") refl
-kept_punct punct.Dot = kept_small (codes ".") refl
-kept_punct punct.Star = kept_small (codes "*") refl
-kept_punct punct.At = kept_small (codes "@") refl
-kept_punct punct.Ampersand = kept_small (codes "&") refl
-kept_punct punct.Equals = kept_small (codes "=") refl
+pub punct_ascii : (p : puncts.Punct) → IsAscii (punct_spelling p)
+punct_ascii punct.PathSep = small_ascii (codes "::") refl
+punct_ascii punct.Arrow = small_ascii (codes "->") refl
+punct_ascii punct.FatArrow = small_ascii (codes "=>") refl
+punct_ascii punct.Open = small_ascii (codes "(") refl
+punct_ascii punct.Close = small_ascii (codes ")") refl
+punct_ascii punct.OpenBrace = small_ascii (codes "{") refl
+punct_ascii punct.CloseBrace = small_ascii (codes "}") refl
+punct_ascii punct.OpenBracket = small_ascii (codes "[") refl
+punct_ascii punct.CloseBracket = small_ascii (codes "]") refl
+punct_ascii punct.Less = small_ascii (codes "<") refl
+punct_ascii punct.Greater = small_ascii (codes ">") refl
+punct_ascii punct.Comma = small_ascii (codes ",") refl
+punct_ascii punct.Semicolon = small_ascii (codes ";") refl
+punct_ascii punct.Colon = small_ascii (codes ":") refl
+punct_ascii punct.Dot = small_ascii (codes ".") refl
+punct_ascii punct.Star = small_ascii (codes "*") refl
+punct_ascii punct.At = small_ascii (codes "@") refl
+punct_ascii punct.Ampersand = small_ascii (codes "&") refl
+punct_ascii punct.Equals = small_ascii (codes "=") refl
 
 kept_token : (k : LexemeKind) → IsToken k → AreKept (spelling k)
 kept_token (Name bytes) is = kept_chars bytes is.utf8
-kept_token (OfWord word) is = kept_word (word_spelling word) (word_spelling-plain word).ascii
+kept_token (OfWord word) is = kept_ascii (word_spelling word) (word_ascii (word_spelling word) (word_spelling-plain word).ascii)
 kept_token (Local n) is = kept_append (codes "_") (decimal n) (kept_small (codes "_") refl) (kept_decimal n (omega arith))
 kept_token (Label n) is = kept_append (codes "bb") (decimal n) (kept_small (codes "bb") refl) (kept_decimal n (omega arith))
 kept_token (Number n) is = kept_decimal n is
-kept_token (Punct p) is = kept_punct p
+kept_token (Punct p) is = kept_ascii (punct_spelling p) (punct_ascii p)
 kept_token Other is = absurd is
 
 kept_gap : (g : gaps.Gap) → AreKept (flat_map written (pieces_in g))

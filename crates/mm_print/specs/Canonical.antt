@@ -7,8 +7,9 @@ use Rattle.mm_lex.specs.declared.token.Token as tokens
 use Rattle.mm_print.specs.declared.gap.Gap as gaps
 use Rattle.mm_print.specs.declared.gap.Gap.TheVariants.{LineFeed, Nothing, OneBlank}
 use Rattle.mm_lex.specs.Lexemes.{LexemeKind, Punct, Lexeme, lexemes}
-use Rattle.mm_lex.specs.Pieces.{Piece, Blank, Token, IsToken, written}
+use Rattle.mm_lex.specs.Pieces.{Piece, Blank, Token, written}
 use Rattle.mm_lex.specs.Tokens.{AreTokensOf}
+use Rattle.mm_shape.specs.Shapes.{kinds_of}
 
 -- `;` `{` `}`
 abbrev pub ends_line : puncts.Punct → Bool
@@ -76,11 +77,6 @@ parted (k ∷ ks) = Token k ∷ (behind k ks ++ parted ks)
 abbrev pub canonical : List LexemeKind → List ℕ
 canonical ks = encode_utf8_all (flat_map written (parted ks))
 
--- each is a token that there is
-abbrev pub AllTokens : List LexemeKind → Type 0
-AllTokens [] = Unit {0}
-AllTokens (k ∷ ks) = IsToken k × AllTokens ks
-
 -- `:` before `:` or `::`, and `=` before `>`, would be read as one token
 abbrev pub puncts_join : puncts.Punct → puncts.Punct → Bool
 puncts_join Colon Colon = true
@@ -97,10 +93,6 @@ abbrev pub NoneJoin : List LexemeKind → Type 0
 NoneJoin [] = Unit {0}
 NoneJoin (k ∷ []) = Unit {0}
 NoneJoin (k ∷ next ∷ ks) = (join k next ≡ false) × NoneJoin (next ∷ ks)
-
--- what some tokens spell
-abbrev pub kinds_of : List Lexeme → List LexemeKind
-kinds_of ts = map (λ t. t.kind) ts
 
 -- the text has tokens that spell this
 pub record ReadsAs (ks : List LexemeKind) (text : List ℕ) : Type 0 where

@@ -1,2 +1,5 @@
 pub mod Canonical
 pub mod Neighbours
+pub mod Printed
+pub mod Printing
+pub mod ItemTokens

@@ -201,22 +201,38 @@ command_one words (command.Build m) (command.List n) a b = absurd (omega (arith,
 command_one words (command.Build m) (command.Link n) a b = absurd (omega (arith, two_names 0 (codes "build") (codes "link") words a.0 b.0 a.1 b.1))
 command_one words (command.Link m) (command.List n) a b = absurd (omega (arith, two_names 2 (codes "link") (codes "list") words a.0 b.0 a.1 b.1))
 command_one words (command.Link m) (command.Build n) a b = absurd (omega (arith, two_names 0 (codes "link") (codes "build") words a.0 b.0 a.1 b.1))
+command_one words command.Fmt command.Fmt a b = refl
+command_one words command.Fmt (command.List n) a b = absurd (omega (arith, two_names 0 (codes "fmt") (codes "list") words a.0 b.0 a.1 b.1))
+command_one words command.Fmt (command.Build n) a b = absurd (omega (arith, two_names 0 (codes "fmt") (codes "build") words a.0 b.0 a.1 b.1))
+command_one words command.Fmt (command.Link n) a b = absurd (omega (arith, two_names 0 (codes "fmt") (codes "link") words a.0 b.0 a.1 b.1))
+command_one words (command.List m) command.Fmt a b = absurd (omega (arith, two_names 0 (codes "list") (codes "fmt") words a.0 b.0 a.1 b.1))
+command_one words (command.Build m) command.Fmt a b = absurd (omega (arith, two_names 0 (codes "build") (codes "fmt") words a.0 b.0 a.1 b.1))
+command_one words (command.Link m) command.Fmt a b = absurd (omega (arith, two_names 0 (codes "link") (codes "fmt") words a.0 b.0 a.1 b.1))
 
--- options that are no limits, and no steps, are behind no command
+-- options that are no limits, no steps, or are not to be there, are behind no command
 pub list_refused : (words options : List (List ℕ)) → words ≡ codes "list" ∷ options → ((opts : Opts) → AreLimits options opts → ⊥) → (command : Command) → AreWords words command → ⊥
 list_refused words options is none (command.List opts) a = none opts (subst (λ os. AreLimits os opts) (same_options (codes "list") words options a.0 is a.1) a.2)
 list_refused words options is none (command.Build opts) a = absurd (omega (arith, two_names 0 (codes "list") (codes "build") words options a.0 is a.1))
 list_refused words options is none (command.Link steps) a = absurd (omega (arith, two_names 2 (codes "list") (codes "link") words options a.0 is a.1))
+list_refused words options is none command.Fmt a = absurd (omega (arith, two_names 0 (codes "list") (codes "fmt") words options a.0 is a.1))
 
 pub build_refused : (words options : List (List ℕ)) → words ≡ codes "build" ∷ options → ((opts : Opts) → AreLimits options opts → ⊥) → (command : Command) → AreWords words command → ⊥
 build_refused words options is none (command.List opts) a = absurd (omega (arith, two_names 0 (codes "build") (codes "list") words options a.0 is a.1))
 build_refused words options is none (command.Build opts) a = none opts (subst (λ os. AreLimits os opts) (same_options (codes "build") words options a.0 is a.1) a.2)
 build_refused words options is none (command.Link steps) a = absurd (omega (arith, two_names 0 (codes "build") (codes "link") words options a.0 is a.1))
+build_refused words options is none command.Fmt a = absurd (omega (arith, two_names 0 (codes "build") (codes "fmt") words options a.0 is a.1))
 
 pub link_refused : (words options : List (List ℕ)) → words ≡ codes "link" ∷ options → ((steps : ℕ) → AreSteps options steps → ⊥) → (command : Command) → AreWords words command → ⊥
 link_refused words options is none (command.List opts) a = absurd (omega (arith, two_names 2 (codes "link") (codes "list") words options a.0 is a.1))
 link_refused words options is none (command.Build opts) a = absurd (omega (arith, two_names 0 (codes "link") (codes "build") words options a.0 is a.1))
 link_refused words options is none (command.Link steps) a = none steps (subst (λ os. AreSteps os steps) (same_options (codes "link") words options a.0 is a.1) a.2)
+link_refused words options is none command.Fmt a = absurd (omega (arith, two_names 0 (codes "link") (codes "fmt") words options a.0 is a.1))
+
+pub fmt_refused : (words options : List (List ℕ)) → words ≡ codes "fmt" ∷ options → (options ≡ [] → ⊥) → (command : Command) → AreWords words command → ⊥
+fmt_refused words options is none (command.List opts) a = absurd (omega (arith, two_names 0 (codes "fmt") (codes "list") words options a.0 is a.1))
+fmt_refused words options is none (command.Build opts) a = absurd (omega (arith, two_names 0 (codes "fmt") (codes "build") words options a.0 is a.1))
+fmt_refused words options is none (command.Link steps) a = absurd (omega (arith, two_names 0 (codes "fmt") (codes "link") words options a.0 is a.1))
+fmt_refused words options is none command.Fmt a = none (same_options (codes "fmt") words a.0 options a.1 is ∙ a.2)
 
 abbrev pub texts : List (Bor (List ℕ)) → List (List ℕ)
 texts words = map (λ w. w.now) words

@@ -1,6 +1,8 @@
 pub mod CommandLines
 pub mod CommandNumbers
 pub mod Meanings
+pub mod Formats
+pub mod OneFormat
 pub mod OneReport
 pub mod Reports
 pub mod NamedPrograms

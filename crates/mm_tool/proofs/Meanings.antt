@@ -52,7 +52,7 @@ pub unparsed : (text : List ℕ) (tokens : List Token) (fault : TextFault) (p : 
 unparsed text tokens (faults.BadText line column rule) p lexed is bad m = text_or_fault (lexemes text tokens) is.rest m.tree is.fault (tree_of text tokens p lexed m) is.first
 unparsed text tokens faults.NoMemory p lexed is bad m = cc
 
-none_first : (lines : List ℕ) (line : ℕ) → lines ≡ [] → slice_get lines 0 ≡ Some line → ⊥
+pub none_first : (lines : List ℕ) (line : ℕ) → lines ≡ [] → slice_get lines 0 ≡ Some line → ⊥
 none_first [] line none first = cc
 none_first (l ∷ ls) line none first = cc
 

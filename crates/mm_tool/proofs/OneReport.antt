@@ -25,6 +25,7 @@ use Rattle.mm_tool.specs.Report.{line, Means, IsShown, SaysTooLong, IsVerdict, I
 use Rattle.mm_tool.proofs.CommandLines.{command_one}
 use Rattle.mm_tool.proofs.Meanings.{meaning_one}
 use Rattle.mm_tool.proofs.NamedPrograms.{means_names, members_in}
+use Rattle.mm_tool.proofs.OneFormat.{format_one}
 use Rattle.mm_tool.proofs.OneRun.{link_answer_one}
 use Rattle.mm_tool.proofs.Reports.{Same}
 use Rattle.mm_emit.proofs.OneOrder.{sorted_one}
@@ -81,6 +82,7 @@ answers_one : (command : Command) (text : List ℕ) (s t : ℕ) (a b : List ℕ)
 answers_one (command.List opts) text s t a b one other = answer_one product.Listing text opts s t a b one other
 answers_one (command.Build opts) text s t a b one other = answer_one product.Objects text opts s t a b one other
 answers_one (command.Link steps) text s t a b one other = link_answer_one text steps s t a b one other
+answers_one command.Fmt text s t a b one other = format_one text s t a b one other
 
 pub report_one : (words : List (List ℕ)) (text : List ℕ) (s t : ℕ) (a b : List ℕ) → IsReport words text s a → IsReport words text t b → Same s t a b
 report_one words text s t a b (inl one) (inl other) =

@@ -27,3 +27,7 @@ module _ (p : Program) (opts : Opts) {A : Type 0} (r : Result A CollectFault) wh
 pub IfOk-then : {A E : Type 0} (r : Result A E) (P Q : A → Type 0) → IfOk r P → ((a : A) → P a → Q a) → IfOk r Q
 IfOk-then (Ok a) P Q ok each = each a ok
 IfOk-then (Err e) P Q ok each = tt
+
+pub IfOk-both : {A E : Type 0} (r : Result A E) (P Q R : A → Type 0) → IfOk r P → IfOk r Q → ((a : A) → P a → Q a → R a) → IfOk r R
+IfOk-both (Ok a) P Q R one other each = each a one other
+IfOk-both (Err e) P Q R one other each = tt

@@ -31,6 +31,7 @@ use Rattle.mm_grammar.specs.Reading.{IsText}
 use Rattle.mm_load.specs.Meaning.{IsProgram}
 use Rattle.mm_symbols.specs.Listing.{IsListing}
 use Rattle.mm_tool.specs.Observed.{obs_text, obs_status}
+use Rattle.mm_tool.specs.Formatting.{IsFormat}
 use Rattle.mm_tool.specs.Words.{AreWords, IsNoCommand}
 
 -- A text means a program: its tokens spell a tree, and the tree means the program.
@@ -165,6 +166,7 @@ abbrev pub Answers : Command → List ℕ → ℕ → List ℕ → Type 0
 Answers (command.List opts) text = IsAnswer product.Listing text opts
 Answers (command.Build opts) text = IsAnswer product.Objects text opts
 Answers (command.Link steps) text = IsLinkAnswer text steps
+Answers command.Fmt text = IsFormat text
 
 pub record IsDone (words : List (List ℕ)) (text : List ℕ) (status : ℕ) (output : List ℕ) : Type 0 where
   pub command : Command
@@ -177,7 +179,7 @@ IsReport words text status output = IsDone words text status output ⊎ IsBadWor
 
 -- the statuses of an answer
 abbrev pub IsAnswerStatus : ℕ → Type 0
-IsAnswerStatus status = (status ≡ 0) ⊎ (status ≡ 3) ⊎ (status ≡ 5) ⊎ (status ≡ 6) ⊎ (status ≡ 8) ⊎ (status ≡ 9) ⊎ (status ≡ 10) ⊎ (status ≡ 11)
+IsAnswerStatus status = (status ≡ 0) ⊎ (status ≡ 3) ⊎ (status ≡ 4) ⊎ (status ≡ 5) ⊎ (status ≡ 6) ⊎ (status ≡ 8) ⊎ (status ≡ 9) ⊎ (status ≡ 10) ⊎ (status ≡ 11) ⊎ (status ≡ 12)
 
 -- the statuses that there are
 abbrev pub IsStatus : ℕ → Type 0

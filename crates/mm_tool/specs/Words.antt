@@ -34,11 +34,12 @@ pub record AreSteps (options : List (List ℕ)) (steps : ℕ) : Type 0 where
   pub within : IfSome given (λ n. n ≤ 10000000)
   pub is : steps ≡ unwrap_or given 1000000
 
--- words = "list" limits | "build" limits | "link" steps
+-- words = "list" limits | "build" limits | "link" steps | "fmt"
 abbrev pub AreWords : List (List ℕ) → Command → Type 0
 AreWords words (command.List opts) = (options : List (List ℕ)) × (words ≡ codes "list" ∷ options) × AreLimits options opts
 AreWords words (command.Build opts) = (options : List (List ℕ)) × (words ≡ codes "build" ∷ options) × AreLimits options opts
 AreWords words (command.Link steps) = (options : List (List ℕ)) × (words ≡ codes "link" ∷ options) × AreSteps options steps
+AreWords words command.Fmt = (options : List (List ℕ)) × (words ≡ codes "fmt" ∷ options) × (options ≡ [])
 
 abbrev pub IsCommand : List (List ℕ) → Type 0
 IsCommand words = (command : Command) × AreWords words command
@@ -55,3 +56,4 @@ abbrev pub text_limit : Command → ℕ
 text_limit (command.List opts) = 4194304
 text_limit (command.Build opts) = 4194304
 text_limit (command.Link steps) = 67108864
+text_limit command.Fmt = 4194304

@@ -7,6 +7,7 @@ ghost use Rattle.mm_tool.specs.Words.{AreWords, IsCommand, IsNoCommand, IsWorded
 ghost use Rattle.mm_tool.specs.declared.words.Command.{Command};
 
 use crate::answer::{Answer, Product, answer_to};
+use crate::formatting::format;
 use crate::linking::answer_link;
 use crate::words::{Command, read_words};
 use mm_outside::{ReadRefusal, Sink, Source, put_all, read_all};
@@ -24,7 +25,7 @@ fn limit_of(command: Command) -> usize
     ensures { result ≡ text_limit command }
 {
     match command {
-        Command::List(_) | Command::Build(_) => TEXT_LIMIT,
+        Command::List(_) | Command::Build(_) | Command::Fmt => TEXT_LIMIT,
         Command::Link(_) => OBJECTS_LIMIT,
     }
 }
@@ -44,7 +45,7 @@ fn put<K: Sink>(sink: &mut K, status: u8, output: &[u8]) -> u8
 }
 
 /// The answer to a command and a text.
-#[tactic(auto, using(crate::proofs::CommandLimits::list_short, crate::proofs::CommandLimits::build_short))]
+#[tactic(auto, using(crate::proofs::CommandLimits::list_short, crate::proofs::CommandLimits::build_short, crate::proofs::Formats::format_statuses))]
 fn answer(alloc: Global, command: Command, text: &[u8]) -> Result<Answer, NoMemory>
     requires worded { IsWorded command }
     requires within { length text.now ≤ text_limit command }
@@ -55,6 +56,7 @@ fn answer(alloc: Global, command: Command, text: &[u8]) -> Result<Answer, NoMemo
         Command::List(opts) => answer_to(alloc, Product::Listing, text, &opts),
         Command::Build(opts) => answer_to(alloc, Product::Objects, text, &opts),
         Command::Link(steps) => answer_link(alloc, text, steps),
+        Command::Fmt => format(alloc, text),
     }
 }
 
@@ -87,9 +89,12 @@ fn answer_of<S: Source>(alloc: Global, source: &mut S, command: Command) -> Resu
 /// | status | written | when |
 /// |---|---|---|
 /// | 0 | the listing, or the text of the objects | the text means a program within both limits |
+/// | 0 | the canonical text | the text means a program, and its canonical form is asked for |
 /// | 0 | the numbers that are printed, and `returned` | the objects are linked, and their run returns |
 /// | 2 | `error: bad words` | the words are no command line; nothing is read |
-/// | 3 | `error: bad text` | the text means no program |
+/// | 3 | `error: bad text` | the text means no program, and its items or objects are asked for |
+/// | 3 | `error: bad text at <line>:<column>: <rule>` | the text is none of the language, and its canonical form is asked for |
+/// | 4 | `error: bad crate at line <line>: <rule>` | else it breaks a rule of loading, and no form of it is not built |
 /// | 5 | `error: more than <N> items in crate <name>` | the program has more items than the limit |
 /// | 6 | `error: type length <n> in <path>` | else an item of the program calls an instance that is longer than the limit |
 /// | 8 | `error: bad objects` | the bytes are no text of objects |
@@ -98,6 +103,7 @@ fn answer_of<S: Source>(alloc: Global, source: &mut S, command: Command) -> Resu
 /// | 9 | `error: no main` | else no definition of the main symbol is open to every unit |
 /// | 10 | the numbers that are printed, and `trap <kind>` | the objects are linked, and their run traps |
 /// | 11 | the numbers that are printed, and `still running` | the objects are linked, and their run has not ended after so many steps |
+/// | 12 | `error: form not built` | else the text has a form that is not built yet, and its canonical form is asked for |
 /// | 20 | nothing | the source failed |
 /// | 21 | a prefix of the output | the sink failed |
 /// | 22 | nothing | out of memory |

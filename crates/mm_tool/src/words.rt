@@ -1,4 +1,4 @@
-ghost use Rattle.std.specs.Prelude.{◌≡◌, ℕ, List, map, IfSome};
+ghost use Rattle.std.specs.Prelude.{◌≡◌, [], ℕ, List, map, IfSome};
 ghost use Rattle.mm_tool.specs.Words.{AreSteps, AreWords};
 ghost use Rattle.mm_tool.specs.declared.words.Command.{Command};
 
@@ -21,6 +21,8 @@ pub enum Command {
     Build(Opts),
     /// Links objects, and runs them for so many steps at most.
     Link(u32),
+    /// Writes the canonical form of a text.
+    Fmt,
 }
 
 /// Reads the option `--steps=N`, from 0 to 10,000,000, where there is one.
@@ -37,9 +39,22 @@ fn read_steps(options: &[&str]) -> Option<u32>
     }
 }
 
+/// Reads no options.
+///
+/// `None` exactly where there are some.
+fn read_none(options: &[&str]) -> Option<()>
+    ensures some { IfSome result (λ none. map (λ w. w.now) options.now ≡ []) }
+    ensures none { result ≡ None → map (λ w. w.now) options.now ≡ [] → ⊥ }
+{
+    match options {
+        [] => Some(()),
+        _ => None,
+    }
+}
+
 /// Reads the words after the program's name: `list` or `build` with the options `--length=N`, from 1 to 2,048, and
-/// `--items=N`, from 1 to 131,072, or `link` with the option `--steps=N`, from 0 to 10,000,000. Options come in any
-/// order, each at most once.
+/// `--items=N`, from 1 to 131,072, or `link` with the option `--steps=N`, from 0 to 10,000,000, or `fmt` with none.
+/// Options come in any order, each at most once.
 ///
 /// `None` exactly where they are no command line.
 pub fn read_words(words: &[&str]) -> Option<Command>
@@ -55,6 +70,10 @@ pub fn read_words(words: &[&str]) -> Option<Command>
     }
     if *verb == "link" {
         return Some(Command::Link(read_steps(options)?));
+    }
+    if *verb == "fmt" {
+        read_none(options)?;
+        return Some(Command::Fmt);
     }
     None
 }

@@ -1,5 +1,5 @@
-//! Runs the cases in the files that its words name through the top call of the program, or through the reader of texts, and
-//! prints each that differs.
+//! Runs the cases in the files that its words name through the top call of the program, or through the reader and the printer
+//! of texts, and prints each that differs.
 #![tactic(auto)]
 
 mod cases;

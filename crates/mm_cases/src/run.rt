@@ -1,5 +1,5 @@
 use crate::cases::{Case, behind, device_of, line_of, part_with, read_case, words_of};
-use crate::reading::reading_of;
+use crate::reading::{printing_of, reading_of};
 use crate::texts::pieces_of;
 use anyhow::Result;
 use mm_outside::{BytesSink, BytesSource};
@@ -27,10 +27,12 @@ fn answer(alloc: Global, words: &[String], text: &[u8], block: &str) -> Result<(
     Ok((status, sink.written().to_vec(alloc)?))
 }
 
-/// What is answered to words and a text: to the word `parse` how the text is read, and else what the program answers.
+/// What is answered to words and a text: to the word `parse` how the text is read, to `print` its canonical text, and else
+/// what the program answers.
 fn answered(alloc: Global, words: &[String], text: &[u8], block: &str) -> Result<(u8, Vec<u8>)> {
     match words {
         [word] if word.as_str() == "parse" => reading_of(alloc, text),
+        [word] if word.as_str() == "print" => printing_of(alloc, text),
         _ => answer(alloc, words, text, block),
     }
 }

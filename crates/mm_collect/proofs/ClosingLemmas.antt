@@ -9,7 +9,7 @@ use Rattle.indexmap.proofs.CallerLemmas.{Contains-insert_key}
 use Rattle.indexmap.specs.IndexSet.{insert_key, insert_all}
 use Rattle.mm_terms.specs.declared.item.Item.{Item}
 use Rattle.mm_terms.specs.Closure.{IsMember, AreMembers}
-use Rattle.mm_program.specs.Finding.{firsts, AreInOrder}
+use Rattle.mm_plain.specs.Finding.{firsts, AreInOrder}
 use Rattle.mm_terms.specs.Same.{same_item, items_equal}
 use Rattle.mm_terms.proofs.ClosureLemmas.{member_root, member_used, least}
 use Rattle.mm_collect.proofs.GrowthLemmas.{carried, in_prefix}

@@ -9,7 +9,7 @@ use Rattle.std.proofs.lemmas.List.Elements.{All-contains, Contains-append_left, 
 use Rattle.mm_terms.specs.declared.item.Item.{Item}
 use Rattle.mm_terms.specs.Closure.{IsMember, AreMembers}
 use Rattle.mm_terms.proofs.ClosureLemmas.{least, no_longer}
-use Rattle.mm_program.specs.Finding.{firsts, AreInOrder}
+use Rattle.mm_plain.specs.Finding.{firsts, AreInOrder}
 use Rattle.mm_collect.proofs.GrowthLemmas.{in_prefix}
 use Rattle.mm_collect.proofs.ClosingLemmas.{grown, insert_all-append, all_in}
 use Rattle.mm_collect.proofs.VerdictLemmas.{noted_in}

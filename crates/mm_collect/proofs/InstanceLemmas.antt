@@ -13,15 +13,15 @@ use Rattle.mm_terms.specs.declared.tree.Tree.{Tree}
 use Rattle.mm_terms.specs.Closure.{IsMember}
 use Rattle.mm_terms.specs.Substitution.{subst as put_in, subst-below, IsFormed-subst}
 use Rattle.mm_terms.proofs.ClosureLemmas.{least}
-use Rattle.mm_program.specs.declared.program.Program.{Program}
-use Rattle.mm_program.specs.declared.program.Function.{Function}
-use Rattle.mm_program.specs.declared.program.Call.{Call}
-use Rattle.mm_program.specs.declared.program.End.{End}
-use Rattle.mm_program.specs.declared.program.End.TheVariants as end
-use Rattle.mm_program.specs.Roots.{is_generic, is_root, is_exported, is_named, generic_calls, item_of, roots_of}
-use Rattle.mm_program.specs.Uses.{end_calls, calls_of, called, body_candidates, candidates_of, uses_of, is_within}
-use Rattle.mm_program.specs.WellFormed.{IsTypeUnder, IsCallIn, IsEndIn, IsFunctionIn, IsWellFormed, IsInstanceIn}
-use Rattle.mm_program.proofs.PlainLemmas.{plain-subst}
+use Rattle.mm_plain.specs.declared.program.Program.{Program}
+use Rattle.mm_plain.specs.declared.program.Function.{Function}
+use Rattle.mm_plain.specs.declared.program.Call.{Call}
+use Rattle.mm_plain.specs.declared.program.End.{End}
+use Rattle.mm_plain.specs.declared.program.End.TheVariants as end
+use Rattle.mm_plain.specs.Roots.{is_generic, is_root, is_exported, is_named, generic_calls, item_of, roots_of}
+use Rattle.mm_plain.specs.Uses.{end_calls, calls_of, called, body_candidates, candidates_of, uses_of, is_within}
+use Rattle.mm_plain.specs.WellFormed.{IsTypeUnder, IsCallIn, IsEndIn, IsFunctionIn, IsWellFormed, IsInstanceIn}
+use Rattle.mm_plain.proofs.PlainLemmas.{plain-subst}
 use Rattle.mm_terms.proofs.ListLemmas.{All-flat_map, All-slice_get, All-passing}
 
 -- ---- roots

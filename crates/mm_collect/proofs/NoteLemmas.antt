@@ -8,8 +8,8 @@ use Rattle.std.specs.Cmp.Lexicographic.{slice_cmp}
 use Rattle.std.specs.declared.cmp.Ordering.{Ordering}
 use Rattle.std.specs.declared.cmp.Ordering.TheVariants.{Less, Equal, Greater}
 use Rattle.std.specs.Ordering.{nat_cmp, is_lt, is_gt, ordering_then, ordering_reverse}
-use Rattle.mm_program.specs.declared.over.Over.{Over}
-use Rattle.mm_program.specs.Notes.{note_cmp, IsLeast}
+use Rattle.mm_plain.specs.declared.over.Over.{Over}
+use Rattle.mm_plain.specs.Notes.{note_cmp, IsLeast}
 
 -- ---- the order
 

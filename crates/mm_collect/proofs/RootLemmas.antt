@@ -10,14 +10,14 @@ use Rattle.std.proofs.lemmas.List.Elements.{filter_more}
 use Rattle.std.proofs.lemmas.List.Folds.{list_any-append}
 use Rattle.std.proofs.lemmas.List.FromFn.{length-enumerate_from, get_or-enumerate_from}
 use Rattle.mm_terms.specs.declared.item.Item.{Item}
-use Rattle.mm_program.specs.declared.program.Program.{Program}
-use Rattle.mm_program.specs.declared.program.Function.{Function}
-use Rattle.mm_program.specs.declared.program.Block.{Block}
-use Rattle.mm_program.specs.declared.program.Call.{Call}
-use Rattle.mm_program.specs.declared.program.End.{End}
-use Rattle.mm_program.specs.declared.program.End.TheVariants as end
-use Rattle.mm_program.specs.Uses.{end_calls, calls_of}
-use Rattle.mm_program.specs.Roots.{is_generic, is_named, AreMarks, item_of, is_root, roots_of}
+use Rattle.mm_plain.specs.declared.program.Program.{Program}
+use Rattle.mm_plain.specs.declared.program.Function.{Function}
+use Rattle.mm_plain.specs.declared.program.Block.{Block}
+use Rattle.mm_plain.specs.declared.program.Call.{Call}
+use Rattle.mm_plain.specs.declared.program.End.{End}
+use Rattle.mm_plain.specs.declared.program.End.TheVariants as end
+use Rattle.mm_plain.specs.Uses.{end_calls, calls_of}
+use Rattle.mm_plain.specs.Roots.{is_generic, is_named, AreMarks, item_of, is_root, roots_of}
 
 -- ---- roots
 

@@ -7,15 +7,15 @@ use Rattle.mm_terms.specs.declared.ids.DefId.{DefId}
 use Rattle.mm_terms.specs.declared.tree.Tree.{Tree}
 use Rattle.mm_terms.specs.declared.item.Item.{Item}
 use Rattle.mm_terms.specs.declared.item.Item.TheVariants.{Fn}
-use Rattle.mm_program.specs.declared.over.Over.{Over}
-use Rattle.mm_program.specs.declared.program.Program.{Program}
-use Rattle.mm_program.specs.declared.program.Function.{Function}
-use Rattle.mm_program.specs.declared.program.Block.{Block}
-use Rattle.mm_program.specs.declared.program.Call.{Call}
-use Rattle.mm_program.specs.Uses.{end_calls, called, body_candidates, candidates_of, is_within, uses_of, note_of, notes_of}
+use Rattle.mm_plain.specs.declared.over.Over.{Over}
+use Rattle.mm_plain.specs.declared.program.Program.{Program}
+use Rattle.mm_plain.specs.declared.program.Function.{Function}
+use Rattle.mm_plain.specs.declared.program.Block.{Block}
+use Rattle.mm_plain.specs.declared.program.Call.{Call}
+use Rattle.mm_plain.specs.Uses.{end_calls, called, body_candidates, candidates_of, is_within, uses_of, note_of, notes_of}
 use Rattle.mm_collect.specs.declared.uses.Candidate.TheVariants as candidate
 use Rattle.mm_collect.specs.Candidates.{Judges}
-use Rattle.mm_program.specs.Notes.{IsLeast}
+use Rattle.mm_plain.specs.Notes.{IsLeast}
 use Rattle.mm_collect.proofs.NoteLemmas.{least_one}
 use Rattle.mm_collect.proofs.RootLemmas.{first_calls, more_calls}
 

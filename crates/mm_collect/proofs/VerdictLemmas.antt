@@ -7,16 +7,16 @@ use Rattle.std.proofs.lemmas.List.Elements.{All-nil, All-cons, All-weaker, All-c
 use Rattle.mm_terms.specs.declared.item.Item.{Item}
 use Rattle.mm_terms.specs.Closure.{IsMember, AreMembers}
 use Rattle.mm_terms.proofs.ClosureLemmas.{more_is_longer, one_closure}
-use Rattle.mm_program.specs.declared.over.Over.{Over}
-use Rattle.mm_program.specs.declared.program.Opts.{Opts}
-use Rattle.mm_program.specs.declared.program.Program.{Program}
+use Rattle.mm_plain.specs.declared.over.Over.{Over}
+use Rattle.mm_plain.specs.declared.program.Opts.{Opts}
+use Rattle.mm_plain.specs.declared.program.Program.{Program}
 use Rattle.std.specs.declared.result.Result.{Result}
 use Rattle.mm_collect.specs.declared.fault.CollectFault.{CollectFault}
 use Rattle.mm_collect.specs.declared.fault.CollectFault.TheVariants.{TypeLength}
-use Rattle.mm_program.specs.Notes.{note_cmp, IsLeast}
-use Rattle.mm_program.specs.Roots.{roots_of}
-use Rattle.mm_program.specs.Uses.{uses_of, notes_of}
-use Rattle.mm_program.specs.Verdict.{over, IsNoted, IsTooMany, IsTooLong, IsAccepted}
+use Rattle.mm_plain.specs.Notes.{note_cmp, IsLeast}
+use Rattle.mm_plain.specs.Roots.{roots_of}
+use Rattle.mm_plain.specs.Uses.{uses_of, notes_of}
+use Rattle.mm_plain.specs.Verdict.{over, IsNoted, IsTooMany, IsTooLong, IsAccepted}
 use Rattle.mm_collect.proofs.NoteLemmas.{one_note}
 
 -- ---- what the members note

@@ -5,13 +5,13 @@ ghost use Rattle.mm_terms.specs.declared.item.Item.{Item};
 ghost use Rattle.mm_terms.specs.Same.{same_item};
 ghost use Rattle.mm_terms.specs.Closure.{AreMembers, HasMoreThan};
 ghost use Rattle.mm_collect.specs.declared.closure.Stop.TheVariants.{NoMemory};
-ghost use Rattle.mm_program.specs.declared.over.Over.{Over};
-ghost use Rattle.mm_program.specs.Finding.{AreInOrder};
-ghost use Rattle.mm_program.specs.Notes.{IsLeast};
+ghost use Rattle.mm_plain.specs.declared.over.Over.{Over};
+ghost use Rattle.mm_plain.specs.Finding.{AreInOrder};
+ghost use Rattle.mm_plain.specs.Notes.{IsLeast};
 
 use crate::over::least_over;
 use indexmap::IndexSet;
-use mm_program::Over;
+use mm_plain::Over;
 use mm_terms::{Item, ItemList};
 use std::alloc::{AllocError, AllocFailed, Global};
 

@@ -1,14 +1,14 @@
 ghost use Rattle.std.specs.Prelude.{◌≡◌, ◌≢◌, ℕ, List, IfOk};
-ghost use Rattle.mm_program.specs.Finding.{AreInOrder};
-ghost use Rattle.mm_program.specs.Roots.{roots_of};
-ghost use Rattle.mm_program.specs.Uses.{uses_of, notes_of};
-ghost use Rattle.mm_program.specs.Verdict.{IsAccepted, IsTooLong, IsTooMany};
+ghost use Rattle.mm_plain.specs.Finding.{AreInOrder};
+ghost use Rattle.mm_plain.specs.Roots.{roots_of};
+ghost use Rattle.mm_plain.specs.Uses.{uses_of, notes_of};
+ghost use Rattle.mm_plain.specs.Verdict.{IsAccepted, IsTooLong, IsTooMany};
 
 use crate::closure::{Closed, Graph, Scan, Stop, members};
 use crate::fault::CollectFault;
 use crate::roots::roots;
 use crate::uses::uses;
-use mm_program::{Opts, Program};
+use mm_plain::{Opts, Program};
 use mm_terms::{Item, ItemList};
 use std::alloc::{AllocError, Global};
 

@@ -4,13 +4,13 @@ ghost use Rattle.std.specs.Prelude.{◌≡◌, ℕ, List, All};
 ghost use Rattle.std.specs.List.Sorted.{IsPermutation};
 ghost use Rattle.mm_terms.specs.declared.item.Item.{Item};
 ghost use Rattle.mm_terms.specs.Closure.{IsMember};
-ghost use Rattle.mm_program.specs.declared.program.Opts.{Opts};
-ghost use Rattle.mm_program.specs.declared.program.Program.{Program};
-ghost use Rattle.mm_program.specs.Finding.{AreInOrder};
-ghost use Rattle.mm_program.specs.Roots.{roots_of};
-ghost use Rattle.mm_program.specs.Uses.{candidates_of, uses_of};
-ghost use Rattle.mm_program.specs.Verdict.{IsAccepted, IsTooLong, IsTooMany};
-ghost use Rattle.mm_program.specs.WellFormed.{IsInstanceIn, IsWellFormed};
+ghost use Rattle.mm_plain.specs.declared.program.Opts.{Opts};
+ghost use Rattle.mm_plain.specs.declared.program.Program.{Program};
+ghost use Rattle.mm_plain.specs.Finding.{AreInOrder};
+ghost use Rattle.mm_plain.specs.Roots.{roots_of};
+ghost use Rattle.mm_plain.specs.Uses.{candidates_of, uses_of};
+ghost use Rattle.mm_plain.specs.Verdict.{IsAccepted, IsTooLong, IsTooMany};
+ghost use Rattle.mm_plain.specs.WellFormed.{IsInstanceIn, IsWellFormed};
 
 /// The verdict on a program is one: no two kinds of it hold, what is reported as too long is one path with one length, and
 /// the items of an accepted program are one set, and in order of finding one list.

@@ -1,12 +1,12 @@
 ghost use Rattle.std.specs.Prelude.{◌≡◌, List, ◌++◌};
-ghost use Rattle.mm_program.specs.declared.over.Over.{Over};
-ghost use Rattle.mm_program.specs.Notes.{note_cmp, IsLeast};
+ghost use Rattle.mm_plain.specs.declared.over.Over.{Over};
+ghost use Rattle.mm_plain.specs.Notes.{note_cmp, IsLeast};
 
-use mm_program::Over;
+use mm_plain::Over;
 use std::cmp::Ordering;
 
 /// By the bytes of the paths, and then by the lengths.
-#[tactic(auto, unfolding(mm_program::specs::Notes::note_cmp))]
+#[tactic(auto, unfolding(mm_plain::specs::Notes::note_cmp))]
 fn compare(one: &Over, other: &Over) -> Ordering
     ensures { result ≡ note_cmp one.now other.now }
 {

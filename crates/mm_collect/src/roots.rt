@@ -1,10 +1,10 @@
 ghost use Rattle.std.specs.Prelude.{◌≡◌, ◌<◌, ◌||◌, List, ◌++◌, length, false, IfOk};
-ghost use Rattle.mm_program.specs.declared.program.Call.{Call};
-ghost use Rattle.mm_program.specs.Roots;
-ghost use Rattle.mm_program.specs.Roots.{is_named, generic_calls, roots_of, AreMarks};
-ghost use Rattle.mm_program.specs.Uses.{calls_of};
+ghost use Rattle.mm_plain.specs.declared.program.Call.{Call};
+ghost use Rattle.mm_plain.specs.Roots;
+ghost use Rattle.mm_plain.specs.Roots.{is_named, generic_calls, roots_of, AreMarks};
+ghost use Rattle.mm_plain.specs.Uses.{calls_of};
 
-use mm_program::{End, Function, Program};
+use mm_plain::{End, Function, Program};
 use mm_terms::{DefId, Item, NoMemory, Tys};
 use std::alloc::Global;
 

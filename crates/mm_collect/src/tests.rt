@@ -1,5 +1,5 @@
 use super::*;
-use mm_program::{Block, Call, End, Function, Opts, Place, Program};
+use mm_plain::{Block, Call, End, Function, Opts, Place, Program};
 use mm_terms::{DefId, NoMemory, Text, Ty, TyHead, Tys};
 use sqlite_items::Items;
 use std::alloc::Global;

@@ -1,11 +1,11 @@
 ghost use Rattle.std.specs.Prelude.{◌≡◌, IfOk};
-ghost use Rattle.mm_program.specs.Uses.{called, uses_of, notes_of};
+ghost use Rattle.mm_plain.specs.Uses.{called, uses_of, notes_of};
 ghost use Rattle.mm_collect.specs.Candidates.{Judges};
-ghost use Rattle.mm_program.specs.Notes.{IsLeast};
+ghost use Rattle.mm_plain.specs.Notes.{IsLeast};
 
 use crate::closure::Scan;
 use crate::over::least_over;
-use mm_program::{Call, End, Over, Program};
+use mm_plain::{Call, End, Over, Program};
 use mm_subst::{applied_length, apply_all};
 use mm_terms::{Item, NoMemory, Text, Ty};
 use std::alloc::Global;

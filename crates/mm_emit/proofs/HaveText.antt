@@ -8,22 +8,22 @@ use Rattle.mm_terms.specs.declared.tree.Tree.{Tree}
 use Rattle.mm_terms.specs.declared.item.Item.{Item}
 use Rattle.mm_terms.specs.declared.item.Item.TheVariants.{Fn, Glue, Shim, Static}
 use Rattle.mm_terms.specs.Order.{types_of}
-use Rattle.mm_program.specs.declared.program.Program.{Program}
-use Rattle.mm_program.specs.declared.program.Function.{Function}
-use Rattle.mm_program.specs.declared.program.Block.{Block}
-use Rattle.mm_program.specs.declared.program.Place.{Place}
-use Rattle.mm_program.specs.declared.program.Statement.{Statement}
-use Rattle.mm_program.specs.declared.program.Statement.TheVariants as statement
-use Rattle.mm_program.specs.declared.program.Rvalue.{Rvalue}
-use Rattle.mm_program.specs.declared.program.Rvalue.TheVariants as rvalue
-use Rattle.mm_program.specs.declared.program.Operand.{Operand}
-use Rattle.mm_program.specs.declared.program.Operand.TheVariants as operand
-use Rattle.mm_program.specs.declared.program.Arm.{Arm}
-use Rattle.mm_program.specs.declared.program.End.{End}
-use Rattle.mm_program.specs.declared.program.End.TheVariants as end
-use Rattle.mm_program.specs.Roots.{main_item}
-use Rattle.mm_program.specs.Uses.{end_calls, calls_of, called, body_candidates, candidates_of}
-use Rattle.mm_program.specs.WellFormed.{IsBlockIn, IsEndIn, IsFunctionIn, IsInstanceIn, IsLabelOf, IsOperandOf, IsPlaceOf, IsRvalueOf, IsStatementOf}
+use Rattle.mm_plain.specs.declared.program.Program.{Program}
+use Rattle.mm_plain.specs.declared.program.Function.{Function}
+use Rattle.mm_plain.specs.declared.program.Block.{Block}
+use Rattle.mm_plain.specs.declared.program.Place.{Place}
+use Rattle.mm_plain.specs.declared.program.Statement.{Statement}
+use Rattle.mm_plain.specs.declared.program.Statement.TheVariants as statement
+use Rattle.mm_plain.specs.declared.program.Rvalue.{Rvalue}
+use Rattle.mm_plain.specs.declared.program.Rvalue.TheVariants as rvalue
+use Rattle.mm_plain.specs.declared.program.Operand.{Operand}
+use Rattle.mm_plain.specs.declared.program.Operand.TheVariants as operand
+use Rattle.mm_plain.specs.declared.program.Arm.{Arm}
+use Rattle.mm_plain.specs.declared.program.End.{End}
+use Rattle.mm_plain.specs.declared.program.End.TheVariants as end
+use Rattle.mm_plain.specs.Roots.{main_item}
+use Rattle.mm_plain.specs.Uses.{end_calls, calls_of, called, body_candidates, candidates_of}
+use Rattle.mm_plain.specs.WellFormed.{IsBlockIn, IsEndIn, IsFunctionIn, IsInstanceIn, IsLabelOf, IsOperandOf, IsPlaceOf, IsRvalueOf, IsStatementOf}
 use Rattle.mm_terms.proofs.ListLemmas.{All-slice_get, All-from_map, All-both, All-from_contains, All-from_flat_map}
 use Rattle.mm_names.specs.Names.{IsName}
 use Rattle.mm_symbols.specs.ItemForms.{form_of, depth_of}

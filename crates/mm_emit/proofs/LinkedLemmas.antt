@@ -21,13 +21,13 @@ use Rattle.mm_terms.specs.declared.tree.Tree.{Tree}
 use Rattle.mm_terms.specs.declared.item.Item.{Item}
 use Rattle.mm_terms.specs.declared.item.Item.TheVariants.{Fn, Glue, Shim, Static}
 use Rattle.mm_terms.specs.Same.{same_item, items_equal}
-use Rattle.mm_program.specs.declared.program.Program.{Program}
-use Rattle.mm_program.specs.declared.program.Function.{Function}
-use Rattle.mm_program.specs.declared.program.Block.{Block}
-use Rattle.mm_program.specs.declared.program.End.{End}
-use Rattle.mm_program.specs.declared.program.End.TheVariants as end
-use Rattle.mm_program.specs.Roots.{main_item}
-use Rattle.mm_program.specs.Uses.{end_calls, calls_of, called, body_candidates, candidates_of}
+use Rattle.mm_plain.specs.declared.program.Program.{Program}
+use Rattle.mm_plain.specs.declared.program.Function.{Function}
+use Rattle.mm_plain.specs.declared.program.Block.{Block}
+use Rattle.mm_plain.specs.declared.program.End.{End}
+use Rattle.mm_plain.specs.declared.program.End.TheVariants as end
+use Rattle.mm_plain.specs.Roots.{main_item}
+use Rattle.mm_plain.specs.Uses.{end_calls, calls_of, called, body_candidates, candidates_of}
 use Rattle.mm_objects.specs.declared.objects.ObjUnit.{ObjUnit}
 use Rattle.mm_objects.specs.declared.objects.Linkage.{Linkage}
 use Rattle.mm_objects.specs.declared.objects.Linkage.TheVariants.{External}

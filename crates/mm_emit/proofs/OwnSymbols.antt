@@ -3,8 +3,8 @@ use Rattle.std.proofs.Common.{List}
 use Rattle.std.specs.Prelude.{Contains}
 use Rattle.std.proofs.lemmas.List.Elements.{All-contains}
 use Rattle.mm_terms.specs.declared.item.Item.{Item}
-use Rattle.mm_program.specs.declared.program.Program.{Program}
-use Rattle.mm_program.specs.WellFormed.{IsInstanceIn}
+use Rattle.mm_plain.specs.declared.program.Program.{Program}
+use Rattle.mm_plain.specs.WellFormed.{IsInstanceIn}
 use Rattle.mm_symbols.specs.ItemForms.{IsItemIn}
 use Rattle.mm_symbols.proofs.InstanceItems.{instance_is_item}
 use Rattle.mm_symbols.proofs.ItemLaws.{item_reported}

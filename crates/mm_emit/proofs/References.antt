@@ -11,9 +11,9 @@ use Rattle.std.proofs.lemmas.Slice.Eq.{bytes_eq-Decides}
 use Rattle.mm_terms.specs.declared.tree.Tree.{Tree}
 use Rattle.mm_terms.specs.declared.item.Item.{Item}
 use Rattle.mm_terms.specs.declared.item.Item.TheVariants.{Fn, Glue, Shim, Static}
-use Rattle.mm_program.specs.declared.program.Program.{Program}
-use Rattle.mm_program.specs.declared.program.Function.{Function}
-use Rattle.mm_program.specs.Roots.{main_item}
+use Rattle.mm_plain.specs.declared.program.Program.{Program}
+use Rattle.mm_plain.specs.declared.program.Function.{Function}
+use Rattle.mm_plain.specs.Roots.{main_item}
 use Rattle.mm_objects.specs.declared.objects.Objects.{Objects}
 use Rattle.mm_objects.specs.declared.objects.ObjUnit.{ObjUnit}
 use Rattle.mm_objects.specs.declared.objects.ObjDef.{ObjDef}

@@ -2,8 +2,8 @@
 use Rattle.std.proofs.Common.{◌≡◌, List, [], ◌∷◌, None, refl, ◌∙◌, ap}
 use Rattle.std.specs.List.{find}
 use Rattle.mm_terms.specs.declared.item.Item.{Item}
-use Rattle.mm_program.specs.declared.program.Program.{Program}
-use Rattle.mm_program.specs.Roots.{main_item}
+use Rattle.mm_plain.specs.declared.program.Program.{Program}
+use Rattle.mm_plain.specs.Roots.{main_item}
 use Rattle.mm_objects.specs.declared.objects.Objects.{Objects}
 use Rattle.mm_objects.specs.declared.objects.ObjUnit.{ObjUnit}
 use Rattle.mm_objects.specs.Emitted.{AreObjectsOf, AreUnitsOf, item_symbol, whole_crate}

@@ -4,9 +4,9 @@ use Rattle.std.specs.List.{IsDistinct}
 use Rattle.mm_terms.specs.declared.item.Item.{Item}
 use Rattle.mm_terms.specs.Order.{types_of}
 use Rattle.mm_terms.specs.Same.{same_item}
-use Rattle.mm_program.specs.Roots.{main_item}
-use Rattle.mm_program.specs.WellFormed.{IsWellFormed, IsInstanceIn}
-use Rattle.mm_program.specs.declared.program.Program.{Program}
+use Rattle.mm_plain.specs.Roots.{main_item}
+use Rattle.mm_plain.specs.WellFormed.{IsWellFormed, IsInstanceIn}
+use Rattle.mm_plain.specs.declared.program.Program.{Program}
 use Rattle.mm_names.specs.Names.{IsName}
 use Rattle.mm_objects.specs.Emitted.{UseThemselves}
 use Rattle.mm_symbols.specs.ItemForms.{HasNames, depth_of}

@@ -1,6 +1,6 @@
 -- Objects that do what their program does.
 use Rattle.std.specs.Prelude.{◌≡◌, ℕ}
-use Rattle.mm_program.specs.declared.program.Program.{Program}
+use Rattle.mm_plain.specs.declared.program.Program.{Program}
 use Rattle.mm_objects.specs.declared.objects.Objects.{Objects}
 use Rattle.mm_machines.specs.Demand.{observed_demand}
 use Rattle.mm_machines.specs.Image.{observed_image}

@@ -1,6 +1,6 @@
 -- That the numbers that are written out in objects are below 2^64.
 use Rattle.std.specs.Prelude.{◌<◌, ◌^◌, All, ⊤}
-use Rattle.mm_program.specs.declared.program.Arm.{Arm}
+use Rattle.mm_plain.specs.declared.program.Arm.{Arm}
 use Rattle.mm_objects.specs.declared.objects.Objects.{Objects}
 use Rattle.mm_objects.specs.declared.objects.ObjUnit.{ObjUnit}
 use Rattle.mm_objects.specs.declared.objects.ObjDef.{ObjDef}

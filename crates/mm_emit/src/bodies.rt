@@ -5,7 +5,7 @@ ghost use Rattle.mm_objects.specs.Emitted.{place_of, operand_of, rvalue_of, inst
 ghost use Rattle.mm_emit.specs.Numbers.{FitsOperand, FitsRvalue, FitsInstr};
 
 use mm_objects::{ObjBase, ObjInstr, ObjOperand, ObjPlace, ObjRvalue};
-use mm_program::{Operand, Place, Rvalue, Statement};
+use mm_plain::{Operand, Place, Rvalue, Statement};
 use mm_terms::NoMemory;
 use sqlite_items::Items;
 use std::alloc::Global;

@@ -2,13 +2,13 @@
 
 ghost use Rattle.std.specs.Prelude.{◌≡◌, map, length, slice_get, Some, [], All, IfOk};
 ghost use Rattle.mm_objects.specs.Emitted.{item_symbol, end_of, block_of, code_of, def_of};
-ghost use Rattle.mm_program.specs.Uses.{called};
+ghost use Rattle.mm_plain.specs.Uses.{called};
 ghost use Rattle.mm_objects.specs.declared.objects.ObjDef.TheVariants.{Code};
 ghost use Rattle.mm_emit.specs.Numbers.{FitsArm, FitsEnd, FitsBlock, FitsDef};
 
 use crate::bodies::{instrs, operand, operands, place};
 use mm_objects::{Linkage, ObjBlock, ObjCallee, ObjDef, ObjEnd};
-use mm_program::{Arm, Block, Call, End, Function, Program};
+use mm_plain::{Arm, Block, Call, End, Function, Program};
 use mm_subst::apply_all;
 use mm_symbols::symbol;
 use mm_terms::{Item, NoMemory, Text, Ty};

@@ -6,13 +6,13 @@ ghost use Rattle.std.specs.Cmp.Lexicographic.{slice_cmp};
 ghost use Rattle.std.specs.Ordering.{nat_cmp};
 ghost use Rattle.mm_objects.specs.declared.objects.Linkage.TheVariants.{External};
 ghost use Rattle.mm_objects.specs.Emitted.{AreObjectsOf, IsUnitOf, def_of, item_symbol, whole_crate};
-ghost use Rattle.mm_program.specs.Roots.{main_item};
+ghost use Rattle.mm_plain.specs.Roots.{main_item};
 ghost use Rattle.mm_objects.specs.Resolution.{symbol_of};
 ghost use Rattle.mm_emit.specs.Numbers.{FitsDef, FitsUnit, NumbersFit};
 
 use crate::definitions::definition;
 use mm_objects::{Linkage, ObjDef, ObjUnit, Objects};
-use mm_program::Program;
+use mm_plain::Program;
 use mm_symbols::symbol;
 use mm_terms::{Item, NoMemory, Text};
 use sqlite_items::Items;

@@ -3,8 +3,8 @@
 ghost use Rattle.std.specs.Prelude.{◌≡◌, List, [], ◌∷◌, Contains, length};
 ghost use Rattle.std.specs.List.Sorted.{IsPermutation};
 ghost use Rattle.mm_terms.specs.declared.item.Item.{Item};
-ghost use Rattle.mm_program.specs.declared.program.Program.{Program};
-ghost use Rattle.mm_program.specs.Roots.{main_item};
+ghost use Rattle.mm_plain.specs.declared.program.Program.{Program};
+ghost use Rattle.mm_plain.specs.Roots.{main_item};
 ghost use Rattle.mm_objects.specs.declared.objects.Objects.{Objects};
 ghost use Rattle.mm_objects.specs.ObjectForms.{AreObjects};
 ghost use Rattle.mm_emit.specs.Complete.{IsComplete};

@@ -17,11 +17,11 @@ use Rattle.mm_load.proofs.ItemViews.{items_in}
 use Rattle.mm_load.proofs.ColonLemmas.{one_name}
 use Rattle.mm_load.proofs.FormLemmas.{path_of, defined, module_functions, function_alone, module_inside, named_module, named_function}
 use Rattle.mm_load.proofs.WrittenItems.{IsFine, of_crate}
-use Rattle.mm_terms.proofs.ListLemmas.{All-flat_map, All-slice_get}
+use Rattle.mm_terms.specs.Lists.{All-apart}
+use Rattle.mm_terms.proofs.ListLemmas.{All-flat_map, All-slice_get, bytes_same}
 use Rattle.mm_load.proofs.ItemLemmas.{member_of-name}
-use Rattle.mm_load.proofs.KeptLemmas.{none_both, none_if, all_parts}
+use Rattle.mm_load.proofs.KeptLemmas.{none_both, none_if}
 use Rattle.mm_load.proofs.MemberLemmas.{doubled}
-use Rattle.mm_load.proofs.IndexLemmas.{bytes_same}
 
 -- ---- lists of functions, each with a path of its own
 
@@ -81,7 +81,7 @@ later_other before [] none = λ k d within. All-nil (HasOther (get_or before k d
 later_other before (m ∷ ms) none =
     let parts = none_both (doubled before m) (along doubled (before ++ m ∷ []) ms) none in
     let first = none_both (again (map (λ other. other.name.text) before) m.name.text m.name.line) m.inside parts.0 in
-    let others = (all_parts (λ b. All (HasOther b) ms) before (m ∷ []) (later_other (before ++ m ∷ []) ms parts.1)).0 in
+    let others = (All-apart (λ b. All (HasOther b) ms) before (m ∷ []) (later_other (before ++ m ∷ []) ms parts.1)).0 in
     λ k d within. All-cons (HasOther (get_or before k d)) m ms (not_again before m first.0 k d within) (others k d within)
 
 all_other : (before ms : List Member) → along doubled before ms ≡ [] → AreOthers ms × All (λ m. m.inside ≡ []) ms
@@ -89,7 +89,7 @@ all_other before [] none = (tt, All-nil (λ m. m.inside ≡ []))
 all_other before (m ∷ ms) none =
     let parts = none_both (doubled before m) (along doubled (before ++ m ∷ []) ms) none in
     let first = none_both (again (map (λ other. other.name.text) before) m.name.text m.name.line) m.inside parts.0 in
-    let here = (all_parts (λ b. All (HasOther b) ms) before (m ∷ []) (later_other (before ++ m ∷ []) ms parts.1)).1 in
+    let here = (All-apart (λ b. All (HasOther b) ms) before (m ∷ []) (later_other (before ++ m ∷ []) ms parts.1)).1 in
     let rest = all_other (before ++ m ∷ []) ms parts.1 in
     ((All-head (λ b. All (HasOther b) ms) m [] here, rest.0), All-cons (λ m. m.inside ≡ []) m ms first.1 rest.1)
 

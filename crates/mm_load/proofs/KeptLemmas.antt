@@ -27,10 +27,3 @@ none_unless false line h = cc
 pub some_of : {A : Type 0} (o : Option A) (line : ℕ) → line_if (is_none o) line ≡ [] → (x : A) × (o ≡ Some x)
 some_of (Some x) line h = (x, refl)
 some_of None line h = cc
-
--- what holds of each of a list put together holds of each of its parts
-pub all_parts : {X : Type 0} (P : X → Type 0) (xs ys : List X) → All P (xs ++ ys) → All P xs × All P ys
-all_parts P [] ys all = (All-nil P, all)
-all_parts P (x ∷ xs) ys all =
-    let rest = all_parts P xs ys (All-tail P x (xs ++ ys) all) in
-    (All-cons P x xs (All-head P x (xs ++ ys) all) rest.0, rest.1)

@@ -13,11 +13,11 @@ use Rattle.mm_terms.specs.declared.ty_head.TyHead.TheVariants.{Tuple}
 use Rattle.mm_terms.specs.Tree.{node}
 use Rattle.mm_terms.specs.Formed.{IsFormed-node}
 use Rattle.mm_terms.specs.Substitution.{param_of, ParamsBelow, ParamsBelow-node}
-use Rattle.mm_program.specs.declared.program.Program.{Program}
-use Rattle.mm_program.specs.declared.program.Function as made
-use Rattle.mm_program.specs.declared.program.Call as made_call
-use Rattle.mm_program.specs.WellFormed.{NamesNone, NamesNoDefinition, IsTypeUnder, IsPlaceOf, IsLabelOf, IsOperandOf, IsRvalueOf, IsStatementOf, IsCallIn, IsEndIn, IsBlockIn, IsFunctionIn, HasMain}
-use Rattle.mm_program.proofs.PlainLemmas.{plain-node}
+use Rattle.mm_plain.specs.declared.program.Program.{Program}
+use Rattle.mm_plain.specs.declared.program.Function as made
+use Rattle.mm_plain.specs.declared.program.Call as made_call
+use Rattle.mm_plain.specs.WellFormed.{NamesNone, NamesNoDefinition, IsTypeUnder, IsPlaceOf, IsLabelOf, IsOperandOf, IsRvalueOf, IsStatementOf, IsCallIn, IsEndIn, IsBlockIn, IsFunctionIn, HasMain}
+use Rattle.mm_plain.proofs.PlainLemmas.{plain-node}
 use Rattle.mm_ast.specs.declared.items.Crate.{Crate}
 use Rattle.mm_ast.specs.declared.items.Function.{Function}
 use Rattle.mm_ast.specs.declared.types.Type as written

@@ -5,8 +5,8 @@ use Rattle.std.specs.Option.{option_map}
 use Rattle.std.proofs.lemmas.List.{length-map}
 use Rattle.std.proofs.lemmas.List.Elements.{All-map}
 use Rattle.std.proofs.lemmas.Option.{slice_get-map}
-use Rattle.mm_program.specs.Uses.{function_path}
-use Rattle.mm_program.specs.declared.program.Program.{Program}
+use Rattle.mm_plain.specs.Uses.{function_path}
+use Rattle.mm_plain.specs.declared.program.Program.{Program}
 use Rattle.mm_names.specs.Names.{IsName}
 use Rattle.mm_ast.specs.declared.items.Ast.{Ast}
 use Rattle.mm_ast.specs.declared.items.Crate.{Crate}

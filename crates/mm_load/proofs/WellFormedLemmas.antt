@@ -2,8 +2,8 @@
 use Rattle.std.proofs.Common.{map, get_or, refl, sym, subst}
 use Rattle.std.specs.Prelude.{All, ⊤}
 use Rattle.std.proofs.lemmas.List.Elements.{All-map}
-use Rattle.mm_program.specs.declared.program.Program.{Program}
-use Rattle.mm_program.specs.WellFormed.{IsFunctionIn, HasMain, IsWellFormed}
+use Rattle.mm_plain.specs.declared.program.Program.{Program}
+use Rattle.mm_plain.specs.WellFormed.{IsFunctionIn, HasMain, IsWellFormed}
 use Rattle.mm_ast.specs.declared.items.Ast.{Ast}
 use Rattle.mm_ast.specs.declared.items.Crate.{Crate}
 use Rattle.mm_ast.specs.Written.{IsWritten}

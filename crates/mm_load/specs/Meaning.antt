@@ -29,22 +29,22 @@ use Rattle.mm_terms.specs.declared.ty_head.TyHead.{TyHead}
 use Rattle.mm_terms.specs.declared.ty_head.TyHead.TheVariants.{Param, U64, Bool, Tuple, Ref, Boxed}
 use Rattle.mm_terms.specs.declared.tree.Tree.{Tree}
 use Rattle.mm_terms.specs.Tree.{node}
-use Rattle.mm_program.specs.declared.program.Program.{Program}
-use Rattle.mm_program.specs.declared.program.Function.{Function}
-use Rattle.mm_program.specs.declared.program.Block.{Block}
-use Rattle.mm_program.specs.declared.program.End.{End}
-use Rattle.mm_program.specs.declared.program.End.TheVariants as ends
-use Rattle.mm_program.specs.declared.program.Call.{Call}
-use Rattle.mm_program.specs.declared.program.Place.{Place}
-use Rattle.mm_program.specs.declared.program.Statement.{Statement}
-use Rattle.mm_program.specs.declared.program.Statement.TheVariants as statements
-use Rattle.mm_program.specs.declared.program.Rvalue.{Rvalue}
-use Rattle.mm_program.specs.declared.program.Rvalue.TheVariants as rvalues
-use Rattle.mm_program.specs.declared.program.Op.{Op}
-use Rattle.mm_program.specs.declared.program.Op.TheVariants as ops
-use Rattle.mm_program.specs.declared.program.Arm.{Arm}
-use Rattle.mm_program.specs.declared.program.Operand.{Operand}
-use Rattle.mm_program.specs.declared.program.Operand.TheVariants.{Copy, Move, Num, Truth}
+use Rattle.mm_plain.specs.declared.program.Program.{Program}
+use Rattle.mm_plain.specs.declared.program.Function.{Function}
+use Rattle.mm_plain.specs.declared.program.Block.{Block}
+use Rattle.mm_plain.specs.declared.program.End.{End}
+use Rattle.mm_plain.specs.declared.program.End.TheVariants as ends
+use Rattle.mm_plain.specs.declared.program.Call.{Call}
+use Rattle.mm_plain.specs.declared.program.Place.{Place}
+use Rattle.mm_plain.specs.declared.program.Statement.{Statement}
+use Rattle.mm_plain.specs.declared.program.Statement.TheVariants as statements
+use Rattle.mm_plain.specs.declared.program.Rvalue.{Rvalue}
+use Rattle.mm_plain.specs.declared.program.Rvalue.TheVariants as rvalues
+use Rattle.mm_plain.specs.declared.program.Op.{Op}
+use Rattle.mm_plain.specs.declared.program.Op.TheVariants as ops
+use Rattle.mm_plain.specs.declared.program.Arm.{Arm}
+use Rattle.mm_plain.specs.declared.program.Operand.{Operand}
+use Rattle.mm_plain.specs.declared.program.Operand.TheVariants.{Copy, Move, Num, Truth}
 use Rattle.mm_load.specs.Built.{IsBuilt}
 use Rattle.mm_load.specs.Names.{Names, path_named, main_path, names_in}
 use Rattle.mm_load.specs.WrittenItem.{Defined, functions_of, paths_in, crate_of}

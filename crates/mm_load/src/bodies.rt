@@ -7,7 +7,7 @@ use crate::name_table::{NameTable, path_text};
 use crate::places::local_of;
 use crate::types::{index_in, load_types};
 use mm_ast as ast;
-use mm_program::{Arm, Block, Call, End, Op, Operand, Place, Rvalue, Statement};
+use mm_plain::{Arm, Block, Call, End, Op, Operand, Place, Rvalue, Statement};
 use mm_terms::{DefId, NoMemory, Tys};
 use sqlite_items::Items;
 use std::alloc::Global;

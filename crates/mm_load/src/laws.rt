@@ -1,8 +1,8 @@
 //! Laws of what a tree means. Each is proved, and its function does nothing.
 
 ghost use Rattle.mm_ast.specs.declared.items.Ast.{Ast};
-ghost use Rattle.mm_program.specs.WellFormed.{IsWellFormed};
-ghost use Rattle.mm_program.specs.declared.program.Program.{Program};
+ghost use Rattle.mm_plain.specs.WellFormed.{IsWellFormed};
+ghost use Rattle.mm_plain.specs.declared.program.Program.{Program};
 ghost use Rattle.mm_load.specs.Meaning.{IsProgram};
 ghost use Rattle.mm_ast.specs.Written.{IsWritten};
 

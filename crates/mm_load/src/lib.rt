@@ -3,7 +3,7 @@
 
 ghost use Rattle.std.specs.Prelude.{◌≡◌, ℕ, map, IfOk, Err};
 ghost use Rattle.mm_ast.specs.declared.items.Ast.{Ast};
-ghost use Rattle.mm_program.specs.declared.program.Program.{Program};
+ghost use Rattle.mm_plain.specs.declared.program.Program.{Program};
 ghost use Rattle.mm_load.specs.Asking.{Judges};
 ghost use Rattle.mm_load.specs.Built.{IsBuilt};
 ghost use Rattle.mm_load.specs.Meaning.{IsProgram, program_of};
@@ -34,7 +34,7 @@ mod wrong_arity;
 use functions::{Defined, functions};
 pub use load_error::LoadError;
 use mm_ast as ast;
-use mm_program::Program;
+use mm_plain::Program;
 use name_table::{NameTable, path_table};
 use not_built::built_crate;
 use program::load_program;

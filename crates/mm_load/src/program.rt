@@ -9,7 +9,7 @@ use crate::functions::{Defined, path_in};
 use crate::name_table::{NameTable, type_param_table};
 use crate::types::{add_types, index_in, load_result};
 use mm_ast as ast;
-use mm_program::{Function, Program};
+use mm_plain::{Function, Program};
 use mm_terms::{DefId, NoMemory, Text, Tys};
 use sqlite_items::Items;
 use std::alloc::Global;

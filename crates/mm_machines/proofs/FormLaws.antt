@@ -2,8 +2,8 @@
 use Rattle.std.specs.Prelude.{◌≡◌, ℕ, zero, suc, ◌-◌, Bool, true, false, List, [], ◌∷◌, ◌++◌, map, length, replicate, Result, Ok, Err, nat_eq}
 use Rattle.std.proofs.Common.{◌∙◌, refl, sym, ap}
 use Rattle.std.proofs.lemmas.List.{map-append, length-map}
-use Rattle.mm_program.specs.declared.program.Arm.{Arm}
-use Rattle.mm_program.specs.declared.program.Op.{Op}
+use Rattle.mm_plain.specs.declared.program.Arm.{Arm}
+use Rattle.mm_plain.specs.declared.program.Op.{Op}
 use Rattle.mm_machines.specs.declared.frame.Caller.{Caller}
 use Rattle.mm_machines.specs.declared.frame.Frame.{Frame}
 use Rattle.mm_machines.specs.declared.frame.LocalRange.{LocalRange}

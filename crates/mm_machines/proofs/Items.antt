@@ -4,14 +4,14 @@ use Rattle.std.proofs.Common.{◌∙◌, refl, ap}
 use Rattle.mm_terms.specs.declared.item.Item.{Item}
 use Rattle.mm_terms.specs.declared.item.Item.TheVariants.{Fn, Glue, Shim, Static}
 use Rattle.mm_terms.specs.declared.tree.Tree.{Tree}
-use Rattle.mm_program.specs.declared.program.Function.{Function}
-use Rattle.mm_program.specs.declared.program.Program.{Program}
+use Rattle.mm_plain.specs.declared.program.Function.{Function}
+use Rattle.mm_plain.specs.declared.program.Program.{Program}
 use Rattle.mm_objects.specs.declared.objects.Linkage.{Linkage}
 use Rattle.mm_objects.specs.declared.objects.ObjUnit.{ObjUnit}
 use Rattle.mm_objects.specs.Emitted.{IsOf, block_of, def_of, item_symbol}
 use Rattle.mm_objects.specs.Emitted as emitted
 use Rattle.mm_objects.specs.Resolution.{Placed, placed, def_at, target_of, def_blocks}
-use Rattle.mm_program.specs.Uses.{function_of, type_args}
+use Rattle.mm_plain.specs.Uses.{function_of, type_args}
 use Rattle.mm_machines.specs.Demand.{body_of, shape_of}
 use Rattle.mm_machines.specs.Image.{def_shape}
 use Rattle.mm_objects.proofs.Standing.{stands}

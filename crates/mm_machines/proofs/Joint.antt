@@ -6,24 +6,24 @@ use Rattle.std.specs.List.{Contains}
 use Rattle.std.proofs.Common.{◌∙◌, refl, sym, ap, arith}
 use Rattle.std.proofs.lemmas.List.Elements.{Contains-append_left, Contains-append_right}
 use Rattle.mm_terms.specs.declared.item.Item.{Item}
-use Rattle.mm_program.specs.declared.program.Arm.{Arm}
-use Rattle.mm_program.specs.declared.program.Call.{Call}
-use Rattle.mm_program.specs.declared.program.End.{End}
-use Rattle.mm_program.specs.declared.program.End.TheVariants as end
-use Rattle.mm_program.specs.declared.program.Op.{Op}
-use Rattle.mm_program.specs.declared.program.Operand.{Operand}
-use Rattle.mm_program.specs.declared.program.Operand.TheVariants as operand
-use Rattle.mm_program.specs.declared.program.Place.{Place}
-use Rattle.mm_program.specs.declared.program.Program.{Program}
-use Rattle.mm_program.specs.declared.program.Rvalue.{Rvalue}
-use Rattle.mm_program.specs.declared.program.Rvalue.TheVariants as rvalue
-use Rattle.mm_program.specs.declared.program.Statement.{Statement}
-use Rattle.mm_program.specs.declared.program.Statement.TheVariants as statement
+use Rattle.mm_plain.specs.declared.program.Arm.{Arm}
+use Rattle.mm_plain.specs.declared.program.Call.{Call}
+use Rattle.mm_plain.specs.declared.program.End.{End}
+use Rattle.mm_plain.specs.declared.program.End.TheVariants as end
+use Rattle.mm_plain.specs.declared.program.Op.{Op}
+use Rattle.mm_plain.specs.declared.program.Operand.{Operand}
+use Rattle.mm_plain.specs.declared.program.Operand.TheVariants as operand
+use Rattle.mm_plain.specs.declared.program.Place.{Place}
+use Rattle.mm_plain.specs.declared.program.Program.{Program}
+use Rattle.mm_plain.specs.declared.program.Rvalue.{Rvalue}
+use Rattle.mm_plain.specs.declared.program.Rvalue.TheVariants as rvalue
+use Rattle.mm_plain.specs.declared.program.Statement.{Statement}
+use Rattle.mm_plain.specs.declared.program.Statement.TheVariants as statement
 use Rattle.mm_objects.specs.declared.objects.ObjUnit.{ObjUnit}
 use Rattle.mm_objects.specs.declared.target.Target.{Target}
 use Rattle.mm_objects.specs.declared.target.VtableId.{VtableId}
 use Rattle.mm_machines.specs.Forms.{Shape, Find, Eval, Act, local, number, boolean, copy, move, negation, binary, set, print, goto, unreachable, switch, call, return}
-use Rattle.mm_program.specs.Uses.{type_args, function_of, called}
+use Rattle.mm_plain.specs.Uses.{type_args, function_of, called}
 use Rattle.mm_machines.specs.Demand.{Table, shape_of, demand_place, demand_operand, demand_rvalue, demand_statement, demand_end}
 use Rattle.mm_machines.specs.Image.{def_shape, image_place, image_operand, image_rvalue, image_instr, call_found, image_end}
 use Rattle.mm_objects.specs.Resolution.{def_at, target_of, find_in, Placed, placed}

@@ -5,8 +5,8 @@ use Rattle.std.proofs.Math.Bool.{beq}
 use Rattle.std.proofs.Common.{◌∙◌, refl, sym, ap, subst}
 use Rattle.std.proofs.lemmas.List.{map-set}
 use Rattle.std.proofs.lemmas.Option.{slice_get-map}
-use Rattle.mm_program.specs.declared.program.Op.{Op}
-use Rattle.mm_program.specs.declared.program.Op.TheVariants.{Add, Sub, Mul, Div, Rem, Eq, Lt}
+use Rattle.mm_plain.specs.declared.program.Op.{Op}
+use Rattle.mm_plain.specs.declared.program.Op.TheVariants.{Add, Sub, Mul, Div, Rem, Eq, Lt}
 use Rattle.mm_machines.specs.declared.trap.Trap.{Trap}
 use Rattle.mm_machines.specs.declared.trap.Trap.TheVariants as trap
 use Rattle.mm_machines.specs.declared.value.Part.{Part}

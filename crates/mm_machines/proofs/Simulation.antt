@@ -4,16 +4,16 @@ use Rattle.std.specs.Option.{option_map}
 use Rattle.std.proofs.Common.{◌∙◌, refl, sym, ap, subst}
 use Rattle.std.proofs.lemmas.Option.{slice_get-map}
 use Rattle.mm_terms.specs.declared.item.Item.{Item}
-use Rattle.mm_program.specs.declared.program.Block.{Block}
-use Rattle.mm_program.specs.declared.program.Program.{Program}
-use Rattle.mm_program.specs.declared.program.Statement.{Statement}
+use Rattle.mm_plain.specs.declared.program.Block.{Block}
+use Rattle.mm_plain.specs.declared.program.Program.{Program}
+use Rattle.mm_plain.specs.declared.program.Statement.{Statement}
 use Rattle.mm_objects.specs.declared.objects.ObjUnit.{ObjUnit}
 use Rattle.mm_objects.specs.declared.target.Target.{Target}
 use Rattle.mm_objects.specs.declared.target.VtableId.{VtableId}
 use Rattle.mm_machines.specs.Forms.{Shape, Act}
 use Rattle.mm_machines.specs.Runs.{Code, placed_at, or_nowhere, observed}
-use Rattle.mm_program.specs.Uses.{type_args, function_of}
-use Rattle.mm_program.specs.Roots.{main_item}
+use Rattle.mm_plain.specs.Uses.{type_args, function_of}
+use Rattle.mm_plain.specs.Roots.{main_item}
 use Rattle.mm_machines.specs.Demand.{Table, body_of, shape_of, demand_statement, demand_block, demand, observed_demand}
 use Rattle.mm_machines.specs.Image.{image_instr, image_end, image_block, image, observed_image}
 use Rattle.mm_objects.specs.Resolution.{def_blocks, def_at}

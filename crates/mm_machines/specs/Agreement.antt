@@ -1,7 +1,7 @@
 -- When units are a program's: each reference in a definition of an item names a definition of the item that is called.
 use Rattle.std.specs.Prelude.{◌≡◌, List, Contains}
 use Rattle.mm_terms.specs.declared.item.Item.{Item}
-use Rattle.mm_program.specs.declared.program.Program.{Program}
+use Rattle.mm_plain.specs.declared.program.Program.{Program}
 use Rattle.mm_objects.specs.declared.objects.ObjUnit.{ObjUnit}
 use Rattle.mm_objects.specs.Emitted.{IsOf}
 use Rattle.mm_objects.specs.Resolution.{Placed, placed, target_of}

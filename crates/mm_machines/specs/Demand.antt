@@ -3,21 +3,21 @@
 use Rattle.std.specs.Prelude.{ℕ, List, [], map, length, Option, None, Some, slice_get}
 use Rattle.mm_terms.specs.declared.item.Item.{Item}
 use Rattle.mm_terms.specs.declared.tree.Tree.{Tree}
-use Rattle.mm_program.specs.declared.program.Block.{Block}
-use Rattle.mm_program.specs.declared.program.Call.{Call}
-use Rattle.mm_program.specs.declared.program.End.{End}
-use Rattle.mm_program.specs.declared.program.End.TheVariants as end
-use Rattle.mm_program.specs.declared.program.Function.{Function}
-use Rattle.mm_program.specs.declared.program.Operand.{Operand}
-use Rattle.mm_program.specs.declared.program.Operand.TheVariants as operand
-use Rattle.mm_program.specs.declared.program.Place.{Place}
-use Rattle.mm_program.specs.declared.program.Program.{Program}
-use Rattle.mm_program.specs.declared.program.Rvalue.{Rvalue}
-use Rattle.mm_program.specs.declared.program.Rvalue.TheVariants as rvalue
-use Rattle.mm_program.specs.declared.program.Statement.{Statement}
-use Rattle.mm_program.specs.declared.program.Statement.TheVariants as statement
-use Rattle.mm_program.specs.Roots.{main_item}
-use Rattle.mm_program.specs.Uses.{called, function_of, type_args}
+use Rattle.mm_plain.specs.declared.program.Block.{Block}
+use Rattle.mm_plain.specs.declared.program.Call.{Call}
+use Rattle.mm_plain.specs.declared.program.End.{End}
+use Rattle.mm_plain.specs.declared.program.End.TheVariants as end
+use Rattle.mm_plain.specs.declared.program.Function.{Function}
+use Rattle.mm_plain.specs.declared.program.Operand.{Operand}
+use Rattle.mm_plain.specs.declared.program.Operand.TheVariants as operand
+use Rattle.mm_plain.specs.declared.program.Place.{Place}
+use Rattle.mm_plain.specs.declared.program.Program.{Program}
+use Rattle.mm_plain.specs.declared.program.Rvalue.{Rvalue}
+use Rattle.mm_plain.specs.declared.program.Rvalue.TheVariants as rvalue
+use Rattle.mm_plain.specs.declared.program.Statement.{Statement}
+use Rattle.mm_plain.specs.declared.program.Statement.TheVariants as statement
+use Rattle.mm_plain.specs.Roots.{main_item}
+use Rattle.mm_plain.specs.Uses.{called, function_of, type_args}
 use Rattle.mm_machines.specs.declared.trap.Obs.{Obs}
 use Rattle.mm_machines.specs.Forms.{Shape, Find, Eval, Act, local, number, boolean, copy, move, negation, binary, set, print, goto, unreachable, switch, call, return}
 use Rattle.mm_machines.specs.Runs.{Code, placed_at, or_nowhere, observed}

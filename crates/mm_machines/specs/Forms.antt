@@ -1,8 +1,8 @@
 -- What each form does. Operands, rvalues, statements and ends are put together from these, in both machines: a machine
 -- says where the form comes from, and which function is called.
 use Rattle.std.specs.Prelude.{ℕ, ◌+◌, ◌-◌, Bool, true, false, List, [], ◌∷◌, ◌++◌, length, replicate, Result, Ok, Err, nat_eq, nat_lt, if◌then◌else◌}
-use Rattle.mm_program.specs.declared.program.Arm.{Arm}
-use Rattle.mm_program.specs.declared.program.Op.{Op}
+use Rattle.mm_plain.specs.declared.program.Arm.{Arm}
+use Rattle.mm_plain.specs.declared.program.Op.{Op}
 use Rattle.mm_machines.specs.declared.frame.Caller.{Caller}
 use Rattle.mm_machines.specs.declared.frame.Frame.{Frame}
 use Rattle.mm_machines.specs.declared.frame.LocalRange.{LocalRange}

@@ -2,11 +2,11 @@
 
 ghost use Rattle.std.specs.Prelude.{◌≡◌, ℕ, List};
 ghost use Rattle.mm_terms.specs.declared.item.Item.{Item};
-ghost use Rattle.mm_program.specs.declared.program.Program.{Program};
+ghost use Rattle.mm_plain.specs.declared.program.Program.{Program};
 ghost use Rattle.mm_objects.specs.declared.objects.ObjUnit.{ObjUnit};
 ghost use Rattle.mm_objects.specs.Emitted.{AllResolve};
 ghost use Rattle.mm_machines.specs.Agreement.{StandsAt};
-ghost use Rattle.mm_program.specs.Roots.{main_item};
+ghost use Rattle.mm_plain.specs.Roots.{main_item};
 ghost use Rattle.mm_machines.specs.Demand.{observed_demand};
 ghost use Rattle.mm_machines.specs.Image.{observed_image};
 ghost use Rattle.mm_objects.specs.declared.target.Target.{Target};

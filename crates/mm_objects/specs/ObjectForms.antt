@@ -1,6 +1,6 @@
 -- Which objects have a text, and which bytes are object text.
 use Rattle.std.specs.Prelude.{◌≡◌, ℕ, ◌<◌, ◌≤◌, ◌^◌, ◌+◌, List, [], ◌∷◌, ◌++◌, length, All, flat_map}
-use Rattle.mm_program.specs.declared.program.Arm.{Arm}
+use Rattle.mm_plain.specs.declared.program.Arm.{Arm}
 use Rattle.mm_objects.specs.declared.objects.Objects.{Objects}
 use Rattle.mm_objects.specs.declared.objects.ObjUnit.{ObjUnit}
 use Rattle.mm_objects.specs.declared.objects.ObjDef.{ObjDef}

@@ -22,9 +22,9 @@
 --     callee       fn:<symbol>
 use Rattle.std.specs.Prelude.{ℕ, Bool, true, false, List, [], ◌∷◌, ◌++◌, length, map, flat_map, codes, decimal}
 use Rattle.std.specs.List.{enumerate_from, join_with_byte}
-use Rattle.mm_program.specs.declared.program.Op.{Op}
-use Rattle.mm_program.specs.declared.program.Op.TheVariants.{Add, Sub, Mul, Div, Rem, Eq, Lt}
-use Rattle.mm_program.specs.declared.program.Arm.{Arm}
+use Rattle.mm_plain.specs.declared.program.Op.{Op}
+use Rattle.mm_plain.specs.declared.program.Op.TheVariants.{Add, Sub, Mul, Div, Rem, Eq, Lt}
+use Rattle.mm_plain.specs.declared.program.Arm.{Arm}
 use Rattle.mm_objects.specs.declared.objects.Objects.{Objects}
 use Rattle.mm_objects.specs.declared.objects.ObjUnit.{ObjUnit}
 use Rattle.mm_objects.specs.declared.objects.ObjDef.{ObjDef}

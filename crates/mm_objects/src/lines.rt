@@ -10,7 +10,7 @@ use crate::pieces::{both, last_two, next, only};
 use crate::progress::Header;
 use crate::words::{behind, callee, cut, is, linkage, operand, operation, place, symbol};
 use mm_names::decimal;
-use mm_program::{Arm, Op};
+use mm_plain::{Arm, Op};
 use mm_terms::Text;
 use sqlite_items::Items;
 use std::alloc::Global;

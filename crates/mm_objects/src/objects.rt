@@ -1,4 +1,4 @@
-use mm_program::{Arm, Op};
+use mm_plain::{Arm, Op};
 use mm_terms::Text;
 use sqlite_items::Items;
 

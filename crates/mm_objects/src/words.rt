@@ -10,7 +10,7 @@ use crate::line_error::LineError;
 use crate::number::number_below;
 use crate::objects::{Linkage, ObjBase, ObjCallee, ObjOperand, ObjPlace};
 use mm_names::decimal;
-use mm_program::Op;
+use mm_plain::Op;
 use mm_symbols::{SymItem, SymbolForm, read_symbol};
 use mm_terms::Text;
 use std::alloc::{AllocError, Global};

@@ -8,7 +8,7 @@ use crate::objects::{
     ObjRvalue, ObjUnit, Objects,
 };
 use itoa::Buffer;
-use mm_program::{Arm, Op};
+use mm_plain::{Arm, Op};
 use mm_terms::NoMemory;
 use std::alloc::Global;
 

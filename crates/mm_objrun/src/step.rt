@@ -14,7 +14,7 @@ use crate::values::choice;
 use mm_link::Image;
 use mm_machines::{Ended, Frame, Halt, Trap};
 use mm_objects::{ObjDef, ObjEnd, ObjOperand, Target};
-use mm_program::Arm;
+use mm_plain::Arm;
 use mm_terms::NoMemory;
 use std::alloc::Global;
 

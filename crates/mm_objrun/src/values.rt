@@ -5,7 +5,7 @@ ghost use Rattle.mm_objects.specs.declared.target.VtableId.{VtableId};
 
 use mm_machines::{Trap, Value};
 use mm_objects::{Target, VtableId};
-use mm_program::Op;
+use mm_plain::Op;
 
 /// A value of a run.
 pub type RunValue = Value<Target, VtableId>;

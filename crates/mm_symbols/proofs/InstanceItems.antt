@@ -10,9 +10,9 @@ use Rattle.mm_terms.specs.declared.item.Item.{Item}
 use Rattle.mm_terms.specs.declared.item.Item.TheVariants.{Fn, Glue, Shim, Static}
 use Rattle.mm_terms.specs.Substitution.{HasNoParam-below}
 use Rattle.mm_terms.specs.Tree.{node, children_of, head_of-node, children_of-node, tree_fold-node, tree_ind}
-use Rattle.mm_program.specs.declared.program.Program.{Program}
-use Rattle.mm_program.specs.WellFormed.{NamesNone, NamesNoDefinition, IsTypeUnder, IsInstanceIn}
-use Rattle.mm_program.proofs.PlainLemmas.{plain-head, plain-children}
+use Rattle.mm_plain.specs.declared.program.Program.{Program}
+use Rattle.mm_plain.specs.WellFormed.{NamesNone, NamesNoDefinition, IsTypeUnder, IsInstanceIn}
+use Rattle.mm_plain.proofs.PlainLemmas.{plain-head, plain-children}
 use Rattle.mm_symbols.specs.ItemForms.{def_of, defs_of, IsTypeIn, IsItemIn}
 
 module _ (P : ℕ → Type 0) where

@@ -12,12 +12,13 @@ use Rattle.mm_terms.specs.declared.tree.Tree.{Tree}
 use Rattle.mm_terms.specs.declared.item.Item.{Item}
 use Rattle.mm_terms.specs.declared.item.Item.TheVariants.{Fn, Glue, Shim, Static}
 use Rattle.mm_terms.specs.Formed.{FitsHead, IsFormed, IsFormed-head, IsFormed-children}
+use Rattle.mm_terms.specs.Lists.{All-apart}
 use Rattle.mm_terms.specs.Order.{types_of}
 use Rattle.mm_terms.specs.Substitution.{ParamsBelow, ParamsBelow-none, ParamsBelow-param, ParamsBelow-children, HasNoParam-below}
 use Rattle.mm_terms.specs.Tree.{node, head_of, children_of, tree_fold-parts, tree_ind, node-parts, children_of-node}
-use Rattle.mm_program.specs.declared.program.Program.{Program}
-use Rattle.mm_program.specs.declared.program.Function.{Function}
-use Rattle.mm_program.specs.Uses.{function_path, path_of}
+use Rattle.mm_plain.specs.declared.program.Program.{Program}
+use Rattle.mm_plain.specs.declared.program.Function.{Function}
+use Rattle.mm_plain.specs.Uses.{function_path, path_of}
 use Rattle.mm_symbols.specs.declared.form.SymbolForm.{SymbolForm}
 use Rattle.mm_symbols.specs.SymTree.{sym_node, sym_head, sym_children, sym_head-node, sym_children-node}
 use Rattle.mm_symbols.specs.SymbolText.{symbol_text}
@@ -103,16 +104,10 @@ module _ (p : Program) (names : HasNames p) where
   unfolding defs_of
   defs_parts t = tree_fold-parts (λ head defs. def_of head ++ flat_map (λ ds. ds) defs) t ∙ ap (λ ds. def_of (head_of t) ++ ds) (flat_map-map (λ ds. ds) defs_of (children_of t))
 
-  all_parts : (P : ℕ → Type 0) (is js : List ℕ) → All P (is ++ js) → All P is × All P js
-  all_parts P [] js all = (All-nil P, all)
-  all_parts P (i ∷ is) js all =
-      let rest = all_parts P is js (All-tail P i (is ++ js) all) in
-      (All-cons P i is (All-head P i (is ++ js) all) rest.0, rest.1)
-
   each_apart : (P : ℕ → Type 0) (ts : List Tree) → All P (flat_map defs_of ts) → All (λ t. All P (defs_of t)) ts
   each_apart P [] all = All-nil (λ t. All P (defs_of t))
   each_apart P (t ∷ ts) all =
-      let parts = all_parts P (defs_of t) (flat_map defs_of ts) all in
+      let parts = All-apart P (defs_of t) (flat_map defs_of ts) all in
       All-cons (λ t. All P (defs_of t)) t ts parts.0 (each_apart P ts parts.1)
 
   Within : ℕ → Type 0
@@ -138,7 +133,7 @@ module _ (p : Program) (names : HasNames p) where
   type_parts : (t : Tree) → IsTypeIn p t → Parts t
   type_parts t is =
       let below = ParamsBelow-none 0 t is.plain in
-      let defs = all_parts (λ d. d < length p.functions) (def_of (head_of t)) (flat_map defs_of (children_of t)) (subst (All (λ d. d < length p.functions)) (defs_parts t) is.defs) in
+      let defs = All-apart (λ d. d < length p.functions) (def_of (head_of t)) (flat_map defs_of (children_of t)) (subst (All (λ d. d < length p.functions)) (defs_parts t) is.defs) in
       record {
         head = head_in (head_of t) (λ i same. let under = ParamsBelow-param 0 t i same below in omega arith) defs.0;
         fits = IsFormed-head t is.formed;

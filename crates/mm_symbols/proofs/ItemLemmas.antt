@@ -3,7 +3,7 @@ use Rattle.std.proofs.Common.{◌≡◌, List, map}
 use Rattle.mm_terms.specs.declared.ty_head.TyHead.{TyHead}
 use Rattle.mm_terms.specs.declared.tree.Tree.{Tree}
 use Rattle.mm_terms.specs.Tree.{node, head_of, children_of, tree_fold-parts, tree_fold-node}
-use Rattle.mm_program.specs.declared.program.Program.{Program}
+use Rattle.mm_plain.specs.declared.program.Program.{Program}
 use Rattle.mm_symbols.specs.declared.form.SymHead.{SymHead}
 use Rattle.mm_symbols.specs.declared.form.SymType.{SymType}
 use Rattle.mm_symbols.specs.SymTree.{sym_node}

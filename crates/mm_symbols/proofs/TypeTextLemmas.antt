@@ -7,7 +7,7 @@ use Rattle.mm_terms.specs.declared.ty_head.TyHead.{TyHead}
 use Rattle.mm_terms.specs.declared.ty_head.TyHead.TheVariants.{Param, U64, Bool, Tuple, Ref, Boxed, FnPtr, FnItem, Closure, Dyn, Adt}
 use Rattle.mm_terms.specs.declared.tree.Tree.{Tree}
 use Rattle.mm_terms.specs.Tree.{head_of, children_of, tree_fold-parts}
-use Rattle.mm_program.specs.declared.program.Program.{Program}
+use Rattle.mm_plain.specs.declared.program.Program.{Program}
 use Rattle.mm_symbols.specs.TypeText.{opens, list_text, args_text, fnptr_text, layer_text, type_text}
 
 -- a head around the texts of its children

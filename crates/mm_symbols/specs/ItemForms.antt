@@ -11,8 +11,8 @@ use Rattle.mm_terms.specs.Formed.{IsFormed}
 use Rattle.mm_terms.specs.Order.{types_of}
 use Rattle.mm_terms.specs.Substitution.{HasNoParam}
 use Rattle.mm_terms.specs.Tree.{tree_fold}
-use Rattle.mm_program.specs.declared.program.Program.{Program}
-use Rattle.mm_program.specs.Uses.{path_of}
+use Rattle.mm_plain.specs.declared.program.Program.{Program}
+use Rattle.mm_plain.specs.Uses.{path_of}
 use Rattle.mm_symbols.specs.declared.form.SymHead.{SymHead}
 use Rattle.mm_symbols.specs.declared.form.SymHead.TheVariants as sym
 use Rattle.mm_symbols.specs.declared.form.SymType.{SymType}

@@ -5,9 +5,9 @@ use Rattle.std.specs.Cmp.Lexicographic.{slice_cmp}
 use Rattle.std.specs.Ordering.{nat_cmp}
 use Rattle.mm_terms.specs.declared.item.Item.{Item}
 use Rattle.mm_terms.specs.declared.item.Item.TheVariants.{Fn, Glue, Shim, Static}
-use Rattle.mm_program.specs.declared.program.Program.{Program}
+use Rattle.mm_plain.specs.declared.program.Program.{Program}
 use Rattle.mm_symbols.specs.TypeText.{type_text}
-use Rattle.mm_program.specs.Uses.{path_of}
+use Rattle.mm_plain.specs.Uses.{path_of}
 
 -- the type arguments of an item, with a comma and a blank between two; without any there are no brackets
 abbrev pub item_args_text : List (List ℕ) → List ℕ

@@ -4,8 +4,8 @@ use Rattle.mm_terms.specs.declared.ty_head.TyHead.{TyHead}
 use Rattle.mm_terms.specs.declared.ty_head.TyHead.TheVariants.{Param, U64, Bool as Bools, Tuple, Ref, Boxed, FnPtr, FnItem, Closure, Dyn, Adt}
 use Rattle.mm_terms.specs.declared.tree.Tree.{Tree}
 use Rattle.mm_terms.specs.Tree.{tree_fold}
-use Rattle.mm_program.specs.declared.program.Program.{Program}
-use Rattle.mm_program.specs.Uses.{path_of}
+use Rattle.mm_plain.specs.declared.program.Program.{Program}
+use Rattle.mm_plain.specs.Uses.{path_of}
 
 -- the text begins with (
 abbrev pub opens : List ℕ → Bool

@@ -2,8 +2,8 @@
 //! nothing.
 
 ghost use Rattle.mm_terms.specs.declared.item.Item.{Item};
-ghost use Rattle.mm_program.specs.declared.program.Program.{Program};
-ghost use Rattle.mm_program.specs.WellFormed.{IsInstanceIn};
+ghost use Rattle.mm_plain.specs.declared.program.Program.{Program};
+ghost use Rattle.mm_plain.specs.WellFormed.{IsInstanceIn};
 ghost use Rattle.mm_symbols.specs.ItemForms.{IsItemIn};
 
 /// An instance of a function of the program is an item of the program.

@@ -3,7 +3,7 @@
 ghost use Rattle.std.specs.Prelude.{◌≡◌, ◌≤◌, List, ℕ, All};
 ghost use Rattle.mm_terms.specs.declared.item.Item.{Item};
 ghost use Rattle.mm_terms.specs.Order.{types_of};
-ghost use Rattle.mm_program.specs.declared.program.Program.{Program};
+ghost use Rattle.mm_plain.specs.declared.program.Program.{Program};
 ghost use Rattle.mm_symbols.specs.declared.form.SymbolForm.{SymbolForm};
 ghost use Rattle.mm_symbols.specs.SymbolText.{symbol_text};
 ghost use Rattle.mm_symbols.specs.SymbolForms.{IsForm, IsSymbolOf};

@@ -6,7 +6,7 @@ ghost use Rattle.mm_symbols.specs.Listing.{item_args_text, item_text, line_of, e
 ghost use Rattle.mm_symbols.specs.TypeText.{type_text};
 
 use crate::type_texts::write_type;
-use mm_program::Program;
+use mm_plain::Program;
 use mm_terms::{Item, NoMemory, Ty};
 use std::alloc::Global;
 

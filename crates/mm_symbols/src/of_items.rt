@@ -5,7 +5,7 @@ ghost use Rattle.mm_symbols.specs.ItemForms.{has_some, names_in, names_of, head_
 
 use crate::form::{Segs, SymHead, SymItem, SymType, SymTypes, SymbolForm};
 use crate::writing::write_symbol;
-use mm_program::Program;
+use mm_plain::Program;
 use mm_terms::{DefId, Item, NoMemory, Text, Tree, Ty, TyHead};
 use sqlite_items::Items;
 use std::alloc::Global;

@@ -1,5 +1,5 @@
 use super::*;
-use mm_program::{Function, Program};
+use mm_plain::{Function, Program};
 use mm_terms::{DefId, Item, NoMemory, Text, Ty, TyHead, Tys};
 use sqlite_items::Items;
 use std::alloc::Global;

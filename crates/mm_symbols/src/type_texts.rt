@@ -1,9 +1,9 @@
 ghost use Rattle.std.specs.Prelude.{◌≡◌, ◌∷◌, [], ◌++◌, map, IfOk, OnOk, codes, decimal};
 ghost use Rattle.mm_symbols.specs.TypeText.{opens, behind, list_text, args_text, type_text};
-ghost use Rattle.mm_program.specs.Uses.{path_of};
+ghost use Rattle.mm_plain.specs.Uses.{path_of};
 
 use itoa::Buffer;
-use mm_program::Program;
+use mm_plain::Program;
 use mm_terms::{DefId, NoMemory, Tree, Ty, TyHead};
 use std::alloc::Global;
 

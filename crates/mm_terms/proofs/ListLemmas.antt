@@ -4,10 +4,12 @@ use Rattle.std.specs.declared.option.Option.{Option}
 use Rattle.std.specs.Prelude.{All, Contains, filter, slice_get, IfSome}
 use Rattle.std.specs.List.{enumerate_from, find}
 use Rattle.std.specs.Option.{option_or}
+use Rattle.std.specs.Str.{bytes_eq}
 use Rattle.std.proofs.lemmas.Bool.{false≢true}
 use Rattle.std.proofs.lemmas.List.{get_or-map, get_or_default, length-map}
 use Rattle.std.proofs.lemmas.List.Elements.{All-nil, All-cons, All-head, All-tail, All-append, All-filter, filter_passes, All-contains, Contains-append_left, Contains-append_right, Contains-append_cases}
 use Rattle.std.proofs.lemmas.Option.{slice_get_within, get_or_from_slice_get}
+use Rattle.std.proofs.lemmas.Slice.Eq.{bytes_eq-Decides}
 
 -- ---- tests
 
@@ -177,3 +179,11 @@ Contains-filter test (y ∷ xs) x has passes = at (test y) refl (Contains-cons_c
     at true here (inr rest) others = Contains-later y (filter test xs) x (others rest)
     at false here (inl same) others = absurd (false≢true (sym here ∙ ap test same ∙ passes))
     at false here (inr rest) others = others rest
+
+-- ---- bytes
+
+pub same_bytes : (a b : List ℕ) → bytes_eq a b ≡ true → a ≡ b
+same_bytes a b = (bytes_eq-Decides a b).0
+
+pub bytes_same : (a : List ℕ) → bytes_eq a a ≡ true
+bytes_same a = (bytes_eq-Decides a a).1 refl

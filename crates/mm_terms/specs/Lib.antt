@@ -1,5 +1,6 @@
 pub mod Tree
 pub mod Length
+pub mod Lists
 pub mod Formed
 pub mod Order
 pub mod OrderLaws

@@ -8,6 +8,7 @@ use Rattle.mm_terms.specs.declared.ty_head.TyHead.{TyHead}
 use Rattle.mm_terms.specs.declared.ty_head.TyHead.TheVariants.{Param}
 use Rattle.mm_terms.specs.declared.tree.Tree.{Tree}
 use Rattle.mm_terms.specs.Formed.{FitsHead, IsFormed, IsFormed-head, IsFormed-children, IsFormed-node}
+use Rattle.mm_terms.specs.Lists.{All-apart}
 use Rattle.mm_terms.specs.Tree.{node, head_of, children_of, tree_fold, tree_fold-node, tree_fold-parts, tree_ind, node-parts, head_of-node, children_of-node}
 
 -- what stands in place of a head, over children that are substituted: its argument where it is a parameter, and else the head itself. A parameter past the arguments stays too
@@ -78,16 +79,10 @@ params_of-node head children =
 pub params_of-parts : (t : Tree) → params_of t ≡ param_of (head_of t) ++ flat_map params_of (children_of t)
 params_of-parts t = ap params_of (sym (node-parts t)) ∙ params_of-node (head_of t) (children_of t)
 
-all_parts : (P : ℕ → Type 0) (is js : List ℕ) → All P (is ++ js) → All P is × All P js
-all_parts P [] js all = (All-nil P, all)
-all_parts P (i ∷ is) js all =
-    let rest = all_parts P is js (All-tail P i (is ++ js) all) in
-    (All-cons P i is (All-head P i (is ++ js) all) rest.0, rest.1)
-
 each_apart : (P : ℕ → Type 0) (ts : List Tree) → All P (flat_map params_of ts) → All (λ t. All P (params_of t)) ts
 each_apart P [] all = All-nil (λ t. All P (params_of t))
 each_apart P (t ∷ ts) all =
-    let parts = all_parts P (params_of t) (flat_map params_of ts) all in
+    let parts = All-apart P (params_of t) (flat_map params_of ts) all in
     All-cons (λ t. All P (params_of t)) t ts parts.0 (each_apart P ts parts.1)
 
 together : (P : ℕ → Type 0) (ts : List Tree) → All (λ t. All P (params_of t)) ts → All P (flat_map params_of ts)
@@ -99,7 +94,7 @@ together P (t ∷ ts) each =
 
 parts_below : (n : ℕ) (t : Tree) → ParamsBelow n t → All (λ i. i < n) (param_of (head_of t)) × All (λ i. i < n) (flat_map params_of (children_of t))
 parts_below n t below =
-    all_parts (λ i. i < n) (param_of (head_of t)) (flat_map params_of (children_of t))
+    All-apart (λ i. i < n) (param_of (head_of t)) (flat_map params_of (children_of t))
     (All-same (λ i. i < n) (param_of (head_of t) ++ flat_map params_of (children_of t)) (params_of t) (sym (params_of-parts t)) below)
 
 -- a parameter among them is below n

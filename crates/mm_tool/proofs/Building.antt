@@ -1,7 +1,7 @@
 -- What is written of complete items is the text of objects that are linked and run as the program.
 use Rattle.std.proofs.Common.{◌≡◌, ℕ, List, [], ◌∷◌}
 use Rattle.mm_terms.specs.declared.item.Item.{Item}
-use Rattle.mm_program.specs.declared.program.Program.{Program}
+use Rattle.mm_plain.specs.declared.program.Program.{Program}
 use Rattle.mm_objects.specs.declared.objects.Objects.{Objects}
 use Rattle.mm_objects.specs.Emitted.{AreObjectsOf, whole_crate}
 use Rattle.mm_objects.specs.ObjectText.{objects_text}

@@ -1,7 +1,7 @@
 -- What is reported of the bytes that were built is what is seen of the program.
 use Rattle.std.proofs.Common.{◌≡◌, ℕ, List, ◌∙◌, ap, subst, inl, inr}
 use Rattle.mm_terms.specs.declared.item.Item.{Item}
-use Rattle.mm_program.specs.declared.program.Program.{Program}
+use Rattle.mm_plain.specs.declared.program.Program.{Program}
 use Rattle.mm_objects.specs.declared.objects.Objects.{Objects}
 use Rattle.mm_machines.specs.declared.trap.Obs.{Obs}
 use Rattle.mm_machines.specs.Demand.{observed_demand}

@@ -2,7 +2,7 @@
 use Rattle.std.proofs.Common.{ℕ, ◌≤◌, Some, None, subst, sym, arith}
 use Rattle.std.specs.declared.option.Option.{Option}
 use Rattle.std.specs.Prelude.{List, unwrap_or}
-use Rattle.mm_program.specs.declared.program.Opts.{Opts}
+use Rattle.mm_plain.specs.declared.program.Opts.{Opts}
 use Rattle.mm_tool.specs.declared.words.Command.{Command}
 use Rattle.mm_tool.specs.declared.words.Command.TheVariants as command
 use Rattle.mm_tool.specs.Words.{AreLimits, AreWords, IsUpTo, IsWorded}

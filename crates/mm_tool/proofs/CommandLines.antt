@@ -8,7 +8,7 @@ use Rattle.std.proofs.lemmas.List.{append-nil, append_cancel_left, map-append, t
 use Rattle.std.proofs.lemmas.List.Elements.{Contains-append_left, Contains-append_right, Contains-append_cases}
 use Rattle.std.proofs.lemmas.List.Sums.{sum_by-append, sum_by-cons}
 use Rattle.std.proofs.lemmas.List.Sorted.{IsPermutation-sym, IsPermutation-trans, IsPermutation-cons, IsPermutation-to_front, IsPermutation-append_left, Contains-permutation, sum_by-IsPermutation}
-use Rattle.mm_program.specs.declared.program.Opts.{Opts}
+use Rattle.mm_plain.specs.declared.program.Opts.{Opts}
 use Rattle.mm_tool.specs.declared.words.Command.{Command}
 use Rattle.mm_tool.specs.declared.words.Command.TheVariants as command
 use Rattle.mm_tool.specs.declared.limits.Given.{Given}

@@ -14,12 +14,12 @@ use Rattle.mm_terms.specs.Length.{length_of, lengths_of, item_length, length_of-
 use Rattle.mm_terms.specs.Order.{types_of}
 use Rattle.mm_terms.specs.Tree.{node, tree_ind, tree_fold-node}
 use Rattle.mm_terms.proofs.ClosureLemmas.{member_root, member_used, least}
-use Rattle.mm_program.specs.declared.program.Program.{Program}
-use Rattle.mm_program.specs.declared.program.Opts.{Opts}
-use Rattle.mm_program.specs.Roots.{is_exported, is_root, item_of, roots_of, main_item}
-use Rattle.mm_program.specs.Uses.{candidates_of, is_within, note_of, uses_of}
-use Rattle.mm_program.specs.Verdict.{IsAccepted}
-use Rattle.mm_program.specs.WellFormed.{IsWellFormed, IsInstanceIn}
+use Rattle.mm_plain.specs.declared.program.Program.{Program}
+use Rattle.mm_plain.specs.declared.program.Opts.{Opts}
+use Rattle.mm_plain.specs.Roots.{is_exported, is_root, item_of, roots_of, main_item}
+use Rattle.mm_plain.specs.Uses.{candidates_of, is_within, note_of, uses_of}
+use Rattle.mm_plain.specs.Verdict.{IsAccepted}
+use Rattle.mm_plain.specs.WellFormed.{IsWellFormed, IsInstanceIn}
 use Rattle.mm_collect.proofs.InstanceLemmas.{members_are}
 use Rattle.mm_symbols.specs.ItemForms.{depth_of, greatest}
 use Rattle.mm_objects.specs.Emitted.{UseThemselves}

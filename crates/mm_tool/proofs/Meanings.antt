@@ -1,7 +1,7 @@
 -- A text has one list of tokens, one tree and one program, and a fault leaves it none.
 use Rattle.std.specs.List.{slice_get}
 use Rattle.std.proofs.Common.{◌≡◌, ℕ, List, [], ◌∷◌, Some, Result, Err, refl, sym, ◌∙◌, subst}
-use Rattle.mm_program.specs.declared.program.Program.{Program}
+use Rattle.mm_plain.specs.declared.program.Program.{Program}
 use Rattle.mm_lex.specs.declared.text_fault.TextFault.{TextFault}
 use Rattle.mm_lex.specs.declared.text_fault.TextFault.TheVariants as faults
 use Rattle.mm_lex.specs.declared.token.Token.{Token}

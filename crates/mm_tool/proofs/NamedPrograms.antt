@@ -4,10 +4,10 @@ use Rattle.std.proofs.lemmas.List.Elements.{All-weaker}
 use Rattle.mm_terms.specs.Closure.{IsMember}
 use Rattle.mm_terms.specs.declared.ids.DefId.{DefId}
 use Rattle.mm_terms.specs.declared.item.Item.{Item}
-use Rattle.mm_program.specs.Roots.{roots_of}
-use Rattle.mm_program.specs.Uses.{uses_of}
-use Rattle.mm_program.specs.WellFormed.{IsWellFormed}
-use Rattle.mm_program.specs.declared.program.Program.{Program}
+use Rattle.mm_plain.specs.Roots.{roots_of}
+use Rattle.mm_plain.specs.Uses.{uses_of}
+use Rattle.mm_plain.specs.WellFormed.{IsWellFormed}
+use Rattle.mm_plain.specs.declared.program.Program.{Program}
 use Rattle.mm_collect.proofs.InstanceLemmas.{members_are}
 use Rattle.mm_names.specs.Names.{IsName}
 use Rattle.mm_load.proofs.ChainLemmas.{IsChain}

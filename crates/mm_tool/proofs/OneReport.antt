@@ -2,13 +2,13 @@
 use Rattle.std.proofs.Common.{◌≡◌, ℕ, List, ◌++◌, map, sym, ◌∙◌, ap, subst, inl, inr, codes}
 use Rattle.std.specs.Prelude.{Contains, decimal}
 use Rattle.std.proofs.lemmas.List.Sorted.{IsPermutation-map, IsPermutation-trans, IsPermutation-sym}
-use Rattle.mm_program.specs.declared.program.Program.{Program}
-use Rattle.mm_program.specs.declared.program.Opts.{Opts}
+use Rattle.mm_plain.specs.declared.program.Program.{Program}
+use Rattle.mm_plain.specs.declared.program.Opts.{Opts}
 use Rattle.mm_terms.specs.declared.item.Item.{Item}
 use Rattle.mm_terms.specs.Closure.{IsMember}
-use Rattle.mm_program.specs.Roots.{roots_of}
-use Rattle.mm_program.specs.Uses.{uses_of}
-use Rattle.mm_program.specs.Verdict.{IsAccepted}
+use Rattle.mm_plain.specs.Roots.{roots_of}
+use Rattle.mm_plain.specs.Uses.{uses_of}
+use Rattle.mm_plain.specs.Verdict.{IsAccepted}
 use Rattle.mm_objects.specs.Emitted.{HaveOwnSymbols}
 use Rattle.mm_objects.specs.ObjectText.{objects_text}
 use Rattle.mm_symbols.specs.ItemForms.{IsItemIn}

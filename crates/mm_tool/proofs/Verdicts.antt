@@ -3,9 +3,9 @@ use Rattle.std.proofs.Common.{◌≡◌, ℕ, List, ◌++◌, Result, Ok, Err, I
 use Rattle.std.specs.Prelude.{decimal}
 use Rattle.mm_collect.specs.declared.fault.CollectFault.{CollectFault}
 use Rattle.mm_collect.specs.declared.fault.CollectFault.TheVariants as fault
-use Rattle.mm_program.specs.declared.program.Opts.{Opts}
-use Rattle.mm_program.specs.declared.program.Program.{Program}
-use Rattle.mm_program.specs.Verdict.{IsTooMany, IsTooLong}
+use Rattle.mm_plain.specs.declared.program.Opts.{Opts}
+use Rattle.mm_plain.specs.declared.program.Program.{Program}
+use Rattle.mm_plain.specs.Verdict.{IsTooMany, IsTooLong}
 use Rattle.mm_tool.specs.declared.answer.Product.{Product}
 use Rattle.mm_tool.specs.Report.{Tells, IsVerdict, line}
 

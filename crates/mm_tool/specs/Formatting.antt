@@ -1,6 +1,6 @@
 -- The answer to a text that is to be written in its canonical form.
 use Rattle.std.specs.Prelude.{◌≡◌, ◌⊎◌, ℕ, List, ◌∷◌, ◌++◌, [], codes, decimal}
-use Rattle.mm_program.specs.declared.program.Program.{Program}
+use Rattle.mm_plain.specs.declared.program.Program.{Program}
 use Rattle.mm_lex.specs.declared.token.Token.{Token}
 use Rattle.mm_lex.specs.declared.text_fault.TextRule.{TextRule}
 use Rattle.mm_lex.specs.declared.text_fault.TextRule.TheVariants as text_rules

@@ -4,11 +4,11 @@ use Rattle.std.specs.declared.option.Option.{Option}
 use Rattle.std.specs.Io.KnownBytes.{Appends}
 use Rattle.mm_outside.specs.Whole.{WritesPrefix}
 use Rattle.mm_terms.specs.declared.item.Item.{Item}
-use Rattle.mm_program.specs.declared.program.Program.{Program}
-use Rattle.mm_program.specs.declared.program.Opts.{Opts}
+use Rattle.mm_plain.specs.declared.program.Program.{Program}
+use Rattle.mm_plain.specs.declared.program.Opts.{Opts}
 use Rattle.mm_collect.specs.declared.fault.CollectFault.{CollectFault}
 use Rattle.mm_collect.specs.declared.fault.CollectFault.TheVariants as fault
-use Rattle.mm_program.specs.Verdict.{IsAccepted, IsTooMany, IsTooLong}
+use Rattle.mm_plain.specs.Verdict.{IsAccepted, IsTooMany, IsTooLong}
 use Rattle.mm_ast.specs.declared.items.Ast.{Ast}
 use Rattle.mm_lex.specs.declared.token.Token.{Token}
 use Rattle.mm_objects.specs.declared.objects.Objects.{Objects}

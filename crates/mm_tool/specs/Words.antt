@@ -1,7 +1,7 @@
 -- The words after the program's name: a command, and then its options in any order, each at most once.
 use Rattle.std.specs.Prelude.{◌≡◌, ℕ, ◌≤◌, List, [], ◌∷◌, ◌++◌, Some, None, IfSome, IsPermutation, unwrap_or, codes, decimal}
 use Rattle.std.specs.declared.option.Option.{Option}
-use Rattle.mm_program.specs.declared.program.Opts.{Opts}
+use Rattle.mm_plain.specs.declared.program.Opts.{Opts}
 use Rattle.mm_tool.specs.declared.words.Command.{Command}
 use Rattle.mm_tool.specs.declared.words.Command.TheVariants as command
 

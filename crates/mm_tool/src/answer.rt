@@ -1,5 +1,5 @@
 ghost use Rattle.std.specs.Prelude.{◌≡◌, ℕ, List, ◌≤◌, length, IfOk};
-ghost use Rattle.mm_program.specs.declared.program.Program.{Program};
+ghost use Rattle.mm_plain.specs.declared.program.Program.{Program};
 ghost use Rattle.mm_emit.specs.Complete.{IsComplete};
 ghost use Rattle.mm_tool.specs.Report.{Means, IsMeant, IsObjectsOf, Shows, IsVerdict, IsAnswer};
 
@@ -11,7 +11,7 @@ use mm_lex::lex;
 use mm_load::load;
 use mm_objects::write_objects;
 use mm_parse::parse;
-use mm_program::{Opts, Program};
+use mm_plain::{Opts, Program};
 use mm_symbols::list_items;
 use mm_terms::{Item, NoMemory};
 use std::alloc::Global;

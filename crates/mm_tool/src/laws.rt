@@ -3,10 +3,10 @@
 ghost use Rattle.std.specs.Prelude.{◌≡◌, ℕ, List};
 ghost use Rattle.mm_terms.specs.Closure.{IsMember};
 ghost use Rattle.mm_terms.specs.declared.item.Item.{Item};
-ghost use Rattle.mm_program.specs.Roots.{roots_of};
-ghost use Rattle.mm_program.specs.Uses.{uses_of};
-ghost use Rattle.mm_program.specs.WellFormed.{IsWellFormed};
-ghost use Rattle.mm_program.specs.declared.program.Program.{Program};
+ghost use Rattle.mm_plain.specs.Roots.{roots_of};
+ghost use Rattle.mm_plain.specs.Uses.{uses_of};
+ghost use Rattle.mm_plain.specs.WellFormed.{IsWellFormed};
+ghost use Rattle.mm_plain.specs.declared.program.Program.{Program};
 ghost use Rattle.mm_names.specs.Names.{IsName};
 ghost use Rattle.mm_machines.specs.Demand.{observed_demand};
 ghost use Rattle.mm_symbols.specs.ItemForms.{HasNames, IsItemIn};

@@ -1,11 +1,11 @@
 ghost use Rattle.std.specs.Prelude.{◌≡◌, ℕ, map, IfSome};
-ghost use Rattle.mm_program.specs.declared.program.Opts.{Opts};
+ghost use Rattle.mm_plain.specs.declared.program.Opts.{Opts};
 ghost use Rattle.mm_tool.specs.Words.{AreLimits};
 ghost use Rattle.mm_tool.specs.WordReading.{IsOption, Adds};
 ghost use Rattle.mm_tool.specs.declared.limits.Given.{Given};
 
 use crate::numbers::number;
-use mm_program::Opts;
+use mm_plain::Opts;
 
 /// The greatest number that `--length` takes.
 const LENGTH_MOST: u32 = 2_048;

@@ -6,7 +6,7 @@ ghost use Rattle.mm_tool.specs.Report.{Tells, line};
 use crate::answer::Answer;
 use itoa::Buffer;
 use mm_collect::CollectFault;
-use mm_program::Program;
+use mm_plain::Program;
 use mm_terms::NoMemory;
 use std::alloc::Global;
 

@@ -4,7 +4,7 @@ ghost use Rattle.mm_tool.specs.declared.words.Command.{Command};
 
 use crate::limits::read_limits;
 use crate::numbers::count;
-use mm_program::Opts;
+use mm_plain::Opts;
 
 /// The greatest number that `--steps` takes.
 const STEPS_MOST: u32 = 10_000_000;

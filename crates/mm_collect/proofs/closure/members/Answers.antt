@@ -6,8 +6,8 @@ use Rattle.mm_terms.specs.Closure.{AreMembers}
 use Rattle.mm_terms.specs.Same.{same_item}
 use Rattle.mm_collect.specs.declared.closure.Stop.TheVariants.{TooMany}
 use Rattle.std.specs.Prelude.{flat_map}
-use Rattle.mm_program.specs.Finding.{AreInOrder}
-use Rattle.mm_program.specs.Notes.{IsLeast}
+use Rattle.mm_plain.specs.Finding.{AreInOrder}
+use Rattle.mm_plain.specs.Notes.{IsLeast}
 use Rattle.mm_collect.proofs.ClosingLemmas.{begun, members_first, members_still, no_shorter, scanned, whole, in_order, named_more, named_whole}
 use Rattle.mm_collect.proofs.closure.members.Goals as goal
 

@@ -1,6 +1,6 @@
 use Rattle.std.proofs.Common.{◌-◌, ◌≤◌, length, take}
 use Rattle.std.specs.Prelude.{flat_map}
-use Rattle.mm_program.specs.Notes.{IsLeast}
+use Rattle.mm_plain.specs.Notes.{IsLeast}
 use Rattle.mm_collect.proofs.ClosingLemmas.{IsClosing}
 use Rattle.mm_collect.proofs.closure.members.Given as goal
 

@@ -1,7 +1,7 @@
 use Rattle.std.proofs.Common.{subst, refl}
 use Rattle.std.specs.Prelude.{flat_map}
-use Rattle.mm_program.specs.Notes.{IsLeast}
-use Rattle.mm_program.specs.Uses.{notes_of}
+use Rattle.mm_plain.specs.Notes.{IsLeast}
+use Rattle.mm_plain.specs.Uses.{notes_of}
 use Rattle.mm_collect.proofs.VerdictLemmas.{none_noted, least_noted, as_reported}
 use Rattle.mm_collect.proofs.collection.collect.Goals as goal
 

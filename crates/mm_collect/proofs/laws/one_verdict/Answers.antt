@@ -1,5 +1,5 @@
-use Rattle.mm_program.specs.Roots.{roots_of}
-use Rattle.mm_program.specs.Uses.{uses_of}
+use Rattle.mm_plain.specs.Roots.{roots_of}
+use Rattle.mm_plain.specs.Uses.{uses_of}
 use Rattle.mm_collect.proofs.FindingLemmas.{one_list}
 use Rattle.mm_collect.proofs.VerdictLemmas.{many_or_long, many_or_accepted, long_or_accepted, one_note_reported, one_listing}
 use Rattle.mm_collect.proofs.laws.one_verdict.Goals as goal

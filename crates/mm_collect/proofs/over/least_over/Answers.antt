@@ -1,5 +1,5 @@
 use Rattle.std.proofs.Common.{subst, sym, ◌∙◌}
-use Rattle.mm_program.specs.Notes.{IsLeast}
+use Rattle.mm_plain.specs.Notes.{IsLeast}
 use Rattle.mm_collect.proofs.NoteLemmas.{least_first, least_second}
 use Rattle.mm_collect.proofs.over.least_over.Goals as goal
 

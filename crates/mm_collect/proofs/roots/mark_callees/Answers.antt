@@ -1,5 +1,5 @@
 use Rattle.std.proofs.Common.{rules, ap}
-use Rattle.mm_program.specs.Uses.{end_calls}
+use Rattle.mm_plain.specs.Uses.{end_calls}
 use Rattle.mm_collect.proofs.RootLemmas.{no_calls, kept_none, kept_one, kept_past, kept_all}
 use Rattle.mm_collect.proofs.roots.mark_callees.Goals as goal
 use Rattle.mm_collect.proofs.roots.mark_callees.Goals.{in-Call+in-Some, in-Call+in_default-get_mut, in_default}

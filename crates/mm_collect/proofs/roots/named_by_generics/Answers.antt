@@ -1,6 +1,6 @@
 use Rattle.std.proofs.Common.{◌≡◌, ◌+◌, length, true, false, ap, sym, subst, ◌∙◌, arith}
 use Rattle.std.proofs.lemmas.Bool.Decides.{nat_tests}
-use Rattle.mm_program.specs.Roots.{AreMarks, is_generic}
+use Rattle.mm_plain.specs.Roots.{AreMarks, is_generic}
 use Rattle.mm_collect.proofs.RootLemmas.{first_generic, generic_taken, generic_passed}
 use Rattle.mm_collect.proofs.roots.named_by_generics.Goals as goal
 use Rattle.mm_collect.proofs.roots.named_by_generics.Goals.{then-function-gt0, else-function-gt0}

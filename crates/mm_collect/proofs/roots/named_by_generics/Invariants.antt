@@ -1,5 +1,5 @@
 use Rattle.std.proofs.Common.{◌≡◌, length}
-use Rattle.mm_program.specs.Roots.{AreMarks}
+use Rattle.mm_plain.specs.Roots.{AreMarks}
 use Rattle.mm_collect.proofs.RootLemmas.{first_generic}
 use Rattle.mm_collect.proofs.roots.named_by_generics.Given as goal
 

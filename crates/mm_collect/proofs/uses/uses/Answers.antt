@@ -1,6 +1,6 @@
 use Rattle.std.proofs.Common.{rules, ◌++◌, ap, sym, subst, ◌∙◌}
-use Rattle.mm_program.specs.Uses.{end_calls, called}
-use Rattle.mm_program.specs.Notes.{IsLeast}
+use Rattle.mm_plain.specs.Uses.{end_calls, called}
+use Rattle.mm_plain.specs.Notes.{IsLeast}
 use Rattle.mm_collect.specs.Candidates.{Judges}
 use Rattle.mm_collect.specs.declared.uses.Candidate.TheVariants as candidate
 use Rattle.mm_collect.proofs.RootLemmas.{no_calls}

@@ -2,7 +2,7 @@ use Rattle.std.proofs.Common.{sym, ap, ◌∙◌, map}
 use Rattle.mm_terms.specs.declared.ty_head.TyHead.TheVariants.{Tuple, Adt}
 use Rattle.mm_terms.specs.Tree.{children_of}
 use Rattle.mm_symbols.specs.TypeText.{opens, type_text}
-use Rattle.mm_program.specs.Uses.{path_of}
+use Rattle.mm_plain.specs.Uses.{path_of}
 use Rattle.mm_symbols.proofs.TypeTextLemmas.{type_text-is, opens-path, opens-other}
 use Rattle.mm_symbols.proofs.type_texts.opens.Goals as goal
 

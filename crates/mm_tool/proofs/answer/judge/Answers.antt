@@ -1,5 +1,5 @@
 use Rattle.std.proofs.Common.{subst, sym}
-use Rattle.mm_program.specs.Verdict.{IsAccepted}
+use Rattle.mm_plain.specs.Verdict.{IsAccepted}
 use Rattle.mm_tool.specs.Report.{Tells, IsVerdict}
 use Rattle.mm_tool.proofs.CompleteItems.{items_complete}
 use Rattle.mm_tool.proofs.Verdicts.{IfOk-then, reported}

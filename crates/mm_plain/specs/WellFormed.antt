@@ -10,19 +10,19 @@ use Rattle.mm_terms.specs.declared.tree.Tree.TheOpen.{Tree-F}
 use Rattle.mm_terms.specs.declared.tree.Tree.TheFolds.{every-Tree}
 use Rattle.mm_terms.specs.Formed.{IsFormed}
 use Rattle.mm_terms.specs.Substitution.{ParamsBelow}
-use Rattle.mm_program.specs.declared.program.Program.{Program}
-use Rattle.mm_program.specs.declared.program.Function.{Function}
-use Rattle.mm_program.specs.declared.program.Block.{Block}
-use Rattle.mm_program.specs.declared.program.Place.{Place}
-use Rattle.mm_program.specs.declared.program.Statement.{Statement}
-use Rattle.mm_program.specs.declared.program.Statement.TheVariants as statement
-use Rattle.mm_program.specs.declared.program.Rvalue.{Rvalue}
-use Rattle.mm_program.specs.declared.program.Rvalue.TheVariants as rvalue
-use Rattle.mm_program.specs.declared.program.Operand.{Operand}
-use Rattle.mm_program.specs.declared.program.Operand.TheVariants as operand
-use Rattle.mm_program.specs.declared.program.End.{End}
-use Rattle.mm_program.specs.declared.program.End.TheVariants as end
-use Rattle.mm_program.specs.declared.program.Call.{Call}
+use Rattle.mm_plain.specs.declared.program.Program.{Program}
+use Rattle.mm_plain.specs.declared.program.Function.{Function}
+use Rattle.mm_plain.specs.declared.program.Block.{Block}
+use Rattle.mm_plain.specs.declared.program.Place.{Place}
+use Rattle.mm_plain.specs.declared.program.Statement.{Statement}
+use Rattle.mm_plain.specs.declared.program.Statement.TheVariants as statement
+use Rattle.mm_plain.specs.declared.program.Rvalue.{Rvalue}
+use Rattle.mm_plain.specs.declared.program.Rvalue.TheVariants as rvalue
+use Rattle.mm_plain.specs.declared.program.Operand.{Operand}
+use Rattle.mm_plain.specs.declared.program.Operand.TheVariants as operand
+use Rattle.mm_plain.specs.declared.program.End.{End}
+use Rattle.mm_plain.specs.declared.program.End.TheVariants as end
+use Rattle.mm_plain.specs.declared.program.Call.{Call}
 
 -- ---- types
 

@@ -6,12 +6,12 @@ use Rattle.mm_terms.specs.declared.item.Item.{Item}
 use Rattle.mm_terms.specs.declared.item.Item.TheVariants.{Fn, Glue, Shim, Static}
 use Rattle.mm_terms.specs.Length.{item_length}
 use Rattle.mm_terms.specs.Substitution.{subst_all}
-use Rattle.mm_program.specs.declared.program.Program.{Program}
-use Rattle.mm_program.specs.declared.program.Function.{Function}
-use Rattle.mm_program.specs.declared.program.Call.{Call}
-use Rattle.mm_program.specs.declared.program.End.{End}
-use Rattle.mm_program.specs.declared.program.End.TheVariants as end
-use Rattle.mm_program.specs.declared.over.Over.{Over}
+use Rattle.mm_plain.specs.declared.program.Program.{Program}
+use Rattle.mm_plain.specs.declared.program.Function.{Function}
+use Rattle.mm_plain.specs.declared.program.Call.{Call}
+use Rattle.mm_plain.specs.declared.program.End.{End}
+use Rattle.mm_plain.specs.declared.program.End.TheVariants as end
+use Rattle.mm_plain.specs.declared.over.Over.{Over}
 
 -- the call at the end of a block, where there is one. No other end, and no statement, names an item
 abbrev pub end_calls : End → List Call

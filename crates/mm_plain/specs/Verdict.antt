@@ -6,12 +6,12 @@ use Rattle.std.specs.Prelude.{◌≢◌, ℕ, ◌≤◌, List, length, Contains}
 use Rattle.std.specs.declared.cmp.Ordering.TheVariants.{Less}
 use Rattle.mm_terms.specs.declared.item.Item.{Item}
 use Rattle.mm_terms.specs.Closure.{IsMember, AreMembers, HasMoreThan}
-use Rattle.mm_program.specs.declared.over.Over.{Over}
-use Rattle.mm_program.specs.declared.program.Opts.{Opts}
-use Rattle.mm_program.specs.declared.program.Program.{Program}
-use Rattle.mm_program.specs.Notes.{note_cmp}
-use Rattle.mm_program.specs.Roots.{roots_of}
-use Rattle.mm_program.specs.Uses.{uses_of, notes_of}
+use Rattle.mm_plain.specs.declared.over.Over.{Over}
+use Rattle.mm_plain.specs.declared.program.Opts.{Opts}
+use Rattle.mm_plain.specs.declared.program.Program.{Program}
+use Rattle.mm_plain.specs.Notes.{note_cmp}
+use Rattle.mm_plain.specs.Roots.{roots_of}
+use Rattle.mm_plain.specs.Uses.{uses_of, notes_of}
 
 -- a path and a length as a note
 abbrev pub over : List ℕ → ℕ → Over

@@ -1,5 +1,5 @@
 ghost use Rattle.std.specs.Prelude.{◌≡◌};
-ghost use Rattle.mm_program.specs.Uses.{path_of};
+ghost use Rattle.mm_plain.specs.Uses.{path_of};
 
 use mm_terms::{DefId, Text, Tys};
 use sqlite_items::Items;

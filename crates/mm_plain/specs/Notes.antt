@@ -4,7 +4,7 @@ use Rattle.std.specs.Cmp.Lexicographic.{slice_cmp}
 use Rattle.std.specs.declared.cmp.Ordering.{Ordering}
 use Rattle.std.specs.declared.cmp.Ordering.TheVariants.{Less}
 use Rattle.std.specs.Ordering.{nat_cmp, on, then_cmp}
-use Rattle.mm_program.specs.declared.over.Over.{Over}
+use Rattle.mm_plain.specs.declared.over.Over.{Over}
 
 -- by the bytes of the paths, and then by the lengths
 unfoldable pub note_cmp : Over → Over → Ordering

@@ -6,7 +6,7 @@ use Rattle.mm_terms.specs.declared.ty_head.TyHead.{TyHead}
 use Rattle.mm_terms.specs.declared.tree.Tree.{Tree}
 use Rattle.mm_terms.specs.Tree.{node, head_of, children_of, tree_ind, head_of-node, children_of-node, every-head, every-children, every-node}
 use Rattle.mm_terms.specs.Substitution.{subst as put_in, subst_all, ParamsBelow, ParamsBelow-param, ParamsBelow-children, subst-param, subst-node, param_or_not}
-use Rattle.mm_program.specs.WellFormed.{NamesNone, NamesNoneHere, NamesNoDefinition}
+use Rattle.mm_plain.specs.WellFormed.{NamesNone, NamesNoneHere, NamesNoDefinition}
 
 pub plain-head : (t : Tree) → NamesNoDefinition t → NamesNone (head_of t)
 unfolding NamesNoDefinition

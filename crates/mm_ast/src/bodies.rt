@@ -77,7 +77,15 @@ pub enum Callee {
     /// `<T as Trait>::method`.
     Method(MethodCallee),
     /// `<T as Call>::call`.
-    Call(Type),
+    Call(CallCallee),
+}
+
+/// What runs when a value of a type is called.
+#[derive(Drop)]
+pub struct CallCallee {
+    pub self_type: Type,
+    /// The line of `Call`.
+    pub line: u32,
 }
 
 /// A method of a trait for a type.
@@ -93,19 +101,40 @@ pub struct MethodCallee {
 
 /// A MIR place: a local or a static, and the projections from it.
 #[derive(Drop)]
-pub struct Place {
-    /// The line of its first token.
-    pub line: u32,
-    pub base: Base,
-    pub steps: Items<Step>,
+pub enum Place {
+    /// A local alone.
+    Local(Local),
+    /// A projection from a local.
+    Projection(Boxed<Projection>),
+    /// A static, and the projections from it.
+    Static(Boxed<StaticPlace>),
 }
 
-/// Where a place begins.
+/// A local.
+#[derive(Clone, Copy, Drop)]
+pub struct Local {
+    /// The line of the local.
+    pub line: u32,
+    /// 0 is the result, then the parameters, then the locals of `let`.
+    pub number: u32,
+}
+
+/// A local, and the projections from it: at least one.
 #[derive(Drop)]
-pub enum Base {
-    /// The local of this number: 0 is the result, then the parameters, then the locals of `let`.
-    Local(u32),
-    Static(Boxed<Path>),
+pub struct Projection {
+    pub local: Local,
+    pub first: Step,
+    /// The projections behind the first.
+    pub others: Items<Step>,
+}
+
+/// A static, and the projections from it.
+#[derive(Drop)]
+pub struct StaticPlace {
+    /// The line of `static`.
+    pub line: u32,
+    pub path: Path,
+    pub steps: Items<Step>,
 }
 
 /// A projection.

@@ -12,8 +12,8 @@ mod terms;
 mod types;
 
 pub use bodies::{
-    Arm, Base, Block, Body, Call, Called, Callee, DynTrait, End, Label, MethodCallee, New, Op,
-    Operand, Place, Rvalue, Statement, Step, Switch,
+    Arm, Block, Body, Call, CallCallee, Called, Callee, DynTrait, End, Label, Local, MethodCallee,
+    New, Op, Operand, Place, Projection, Rvalue, Statement, StaticPlace, Step, Switch,
 };
 pub use items::{
     Ast, Bound, BoundForm, Closure, Const, Crate, Definition, DefinitionForm, DropImpl, Enum,

@@ -32,7 +32,8 @@ use Rattle.mm_ast.specs.declared.types.Type.TheViews.{out-Type}
 use Rattle.mm_ast.specs.declared.types.Head.{Head}
 use Rattle.mm_ast.specs.declared.types.Head.TheVariants as heads
 use Rattle.mm_ast.specs.Written.{IsWrittenType, IsWrittenResult, IsWrittenCalled, IsWrittenEnd, IsWrittenBlock, IsWrittenFunction, IsWrittenDefinition, IsWrittenForm, IsWrittenHere, IsWrittenItem, IsWrittenCrate, IsWritten}
-use Rattle.mm_grammar.specs.declared.heads.TraitMethod.{TraitMethod}
+use Rattle.mm_grammar.specs.declared.heads.CalledMethod.{CalledMethod}
+use Rattle.mm_grammar.specs.declared.heads.CalledMethod.TheVariants as methods
 use Rattle.mm_grammar.specs.declared.heads.FnHead.{FnHead}
 use Rattle.mm_forms.specs.Nesting.{within}
 use Rattle.mm_forms.proofs.Values.{all_from, every, all_from-all, all_from-few, made, made_of, Over}
@@ -45,9 +46,9 @@ use Rattle.mm_grammar.proofs.WrittenTypes.{Made, IsWrittenPart, name_named, path
 
 -- ---- bodies
 
-method_free : (self : types.«Type») (m : Option TraitMethod) → IsWrittenCalled (calleds.Callee (method_of self m))
-method_free self None = tt
-method_free self (Some m) = tt
+method_free : (self : types.«Type») (m : CalledMethod) → IsWrittenCalled (calleds.Callee (method_of self m))
+method_free self (methods.Call line) = tt
+method_free self (methods.Trait m) = tt
 
 callee_written : (c : Callee) → Made callee 0 c → IsWrittenCalled (calleds.Callee c)
 unfolding callee method_callee

@@ -12,8 +12,6 @@ use Rattle.mm_ast.specs.declared.types.Head.{Head}
 use Rattle.mm_ast.specs.declared.types.Head.TheVariants as heads
 use Rattle.mm_ast.specs.declared.bodies.Label.{Label}
 use Rattle.mm_ast.specs.declared.bodies.Place.{Place}
-use Rattle.mm_ast.specs.declared.bodies.Base.{Base}
-use Rattle.mm_ast.specs.declared.bodies.Base.TheVariants as bases
 use Rattle.mm_ast.specs.declared.bodies.Step.{Step}
 use Rattle.mm_ast.specs.declared.bodies.Step.TheVariants as steps_
 use Rattle.mm_ast.specs.declared.bodies.Callee.{Callee}
@@ -37,8 +35,13 @@ use Rattle.mm_ast.specs.declared.bodies.End.{End}
 use Rattle.mm_ast.specs.declared.bodies.End.TheVariants as ends_
 use Rattle.mm_ast.specs.declared.bodies.Block.{Block}
 use Rattle.mm_ast.specs.declared.bodies.Body.{Body}
+use Rattle.mm_grammar.specs.declared.heads.Base.{Base}
+use Rattle.mm_grammar.specs.declared.heads.Base.TheVariants as bases
+use Rattle.mm_grammar.specs.declared.heads.CalledMethod.{CalledMethod}
+use Rattle.mm_grammar.specs.declared.heads.CalledMethod.TheVariants as methods
 use Rattle.mm_grammar.specs.declared.heads.TraitMethod.{TraitMethod}
 use Rattle.mm_forms.specs.Forms.{Nothing, Numbered, Then, Many, ManyBelow, Map, At, Inner}
+use Rattle.mm_grammar.specs.Places.{place_at}
 use Rattle.mm_grammar.specs.Rules.{Types, Rule, line_of, word, punct, ends, ◌⋅◌, ◌or◌, bare, optional, list, closed, in_angles, in_parens, text, local, label_number, number}
 
 -- names and paths
@@ -176,23 +179,23 @@ base = Map bases.Local local or Map bases.Static (word words.Static path)
 
 -- place = ( local | "static" path ) { "." number | "." "*" | "@" name } .
 unfoldable pub place : Rule Place
-place = Map (λ p. record { line = p.0; base = p.1.0; steps = p.1.1 }) (At line_of (base ⋅ steps))
+place = Map (λ p. place_at p.0 p.1.0 p.1.1) (At line_of (base ⋅ steps))
 
 -- "Call" ">" "::" "call"
-unfoldable pub call_method : Rule (Option TraitMethod)
-call_method = word words.CallTrait (punct puncts.Greater (punct puncts.PathSep (bare words.Call None)))
+unfoldable pub call_method : Rule CalledMethod
+call_method = Map (λ p. methods.Call p.0) (At line_of (word words.CallTrait (punct puncts.Greater (punct puncts.PathSep (bare words.Call (tt {0}))))))
 
 -- path args ">" "::" name args
 unfoldable pub trait_method : Rule TraitMethod
 trait_method = Map (λ p. record { of = p.0; name = p.1.0; args = p.1.1 }) (path_args ⋅ punct puncts.Greater (punct puncts.PathSep (name ⋅ args)))
 
-abbrev pub method_of : types.«Type» → Option TraitMethod → Callee
-method_of self None = callees.Call self
-method_of self (Some m) = callees.Method (record { self_type = self; of = m.of; name = m.name; args = m.args })
+abbrev pub method_of : types.«Type» → CalledMethod → Callee
+method_of self (methods.Call line) = callees.Call (record { self_type = self; line = line })
+method_of self (methods.Trait m) = callees.Method (record { self_type = self; of = m.of; name = m.name; args = m.args })
 
 -- path args ">" "::" name args | "Call" ">" "::" "call"
-unfoldable pub called_method : Rule (Option TraitMethod)
-called_method = call_method or Map Some trait_method
+unfoldable pub called_method : Rule CalledMethod
+called_method = call_method or Map methods.Trait trait_method
 
 -- "<" ty "as" ( path args ">" "::" name args | "Call" ">" "::" "call" )
 unfoldable pub method_callee : Rule Callee

@@ -2,6 +2,7 @@ pub mod Codes
 pub mod Seen
 pub mod Sequences
 pub mod Rules
+pub mod Places
 pub mod Grammar
 pub mod TermGrammar
 pub mod ItemGrammar

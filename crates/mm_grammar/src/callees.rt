@@ -5,11 +5,11 @@ ghost use Rattle.mm_grammar.specs.Reading.{begun, read};
 ghost use Rattle.mm_grammar.specs.Seen.{seen};
 
 use crate::cursor::Tokens;
-use crate::heads::TraitMethod;
+use crate::heads::{CalledMethod, TraitMethod};
 use crate::names::name;
-use crate::pieces::{past_punct, past_word, starts_punct, starts_word};
+use crate::pieces::{line, past_punct, past_word, starts_punct, starts_word};
 use crate::types::{args, path_args, ty};
-use mm_ast::{Callee, MethodCallee, Name, PathWithArgs, Type};
+use mm_ast::{CallCallee, Callee, MethodCallee, Name, PathWithArgs, Type};
 use mm_forms::Stop;
 use mm_lex::Punct;
 use mm_names::Word;
@@ -24,16 +24,17 @@ fn begins_call_method(tokens: Tokens<'_>) -> bool
     starts_word(Word::CallTrait, tokens)
 }
 
-/// The method of what can be called, which is none of a trait.
+/// The method of what can be called.
 #[tactic(auto, unfolding(crate::specs::Grammar::call_method))]
-fn call_method<'a>(tokens: Tokens<'a>) -> Result<(Option<TraitMethod>, Tokens<'a>), Stop>
+fn call_method<'a>(tokens: Tokens<'a>) -> Result<(CalledMethod, Tokens<'a>), Stop>
     ensures { Gives (λ x. (x.0, seen x.1)) result (read call_method (seen tokens.entry)) }
 {
+    let line = line(tokens)?;
     let rest = past_word(Word::CallTrait, tokens)?;
     let rest = past_punct(Punct::Greater, rest)?;
     let rest = past_punct(Punct::PathSep, rest)?;
     let rest = past_word(Word::Call, rest)?;
-    Ok((None, rest))
+    Ok((CalledMethod::Call(line), rest))
 }
 
 /// A method of a trait.
@@ -49,33 +50,30 @@ fn trait_method<'a>(alloc: Global, tokens: Tokens<'a>) -> Result<(TraitMethod, T
     Ok((TraitMethod { of, name, args }, rest))
 }
 
-/// The method behind `as`; none where it is that of what can be called.
+/// The method behind `as`.
 #[tactic(auto, unfolding(crate::specs::Grammar::called_method))]
-fn called_method<'a>(
-    alloc: Global,
-    tokens: Tokens<'a>,
-) -> Result<(Option<TraitMethod>, Tokens<'a>), Stop>
+fn called_method<'a>(alloc: Global, tokens: Tokens<'a>) -> Result<(CalledMethod, Tokens<'a>), Stop>
     ensures { Gives (λ x. (x.0, seen x.1)) result (read called_method (seen tokens.entry)) }
 {
     if begins_call_method(tokens) {
         return call_method(tokens);
     }
     let (method, rest) = trait_method(alloc, tokens)?;
-    Ok((Some(method), rest))
+    Ok((CalledMethod::Trait(method), rest))
 }
 
 /// The callee that a type and its method are.
-fn method_of(self_type: Type, method: Option<TraitMethod>) -> Callee
+fn method_of(self_type: Type, method: CalledMethod) -> Callee
     ensures { result ≡ method_of self_type method }
 {
     match method {
-        Some(TraitMethod { of, name, args }) => Callee::Method(MethodCallee {
+        CalledMethod::Trait(TraitMethod { of, name, args }) => Callee::Method(MethodCallee {
             self_type,
             of,
             name,
             args,
         }),
-        None => Callee::Call(self_type),
+        CalledMethod::Call(line) => Callee::Call(CallCallee { self_type, line }),
     }
 }
 

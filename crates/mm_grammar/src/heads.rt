@@ -1,7 +1,15 @@
 //! Parts of a text that are read as one and are no part of the tree.
 
-use mm_ast::{Body, Bound, Name, PathWithArgs, Signature, Type};
+use mm_ast::{Body, Bound, Name, Path, PathWithArgs, Signature, Type};
 use sqlite_items::Items;
+
+/// The local or static with which a place begins.
+#[derive(Drop)]
+pub enum Base {
+    /// The local of this number.
+    Local(u32),
+    Static(Path),
+}
 
 /// A method of a trait, as a callee names it.
 #[derive(Drop)]
@@ -11,6 +19,15 @@ pub struct TraitMethod {
     pub name: Name,
     /// The type arguments of the method.
     pub args: Items<Type>,
+}
+
+/// What stands behind `as` in a callee.
+#[derive(Drop)]
+pub enum CalledMethod {
+    /// A method of a trait.
+    Trait(TraitMethod),
+    /// `Call` and its method, and the line of `Call`.
+    Call(u32),
 }
 
 /// What stands before the body of a function.

@@ -46,7 +46,7 @@ use Rattle.mm_load.specs.Names.{Names, index_of, path_named, main_path, names_in
 use Rattle.mm_load.specs.Rules.{line_if, of_call, of_named, unknown_head, unknown_in_type, unknown_in_types, unknown_place, unknown_label, unknown_in_operand, unknown_in_operands, unknown_in_rvalue, unknown_in_statement, unknown_in_statements, unknown_in_arms, unknown_in_switch, unknown_named, unknown_in_call, unknown_in_end, unknown_in_block, unknown_in_blocks, unknown_in_scope, function_at, fits, misfit_named, misfit_call, misfit_block, misfits_in_function, is_bare, bad_main}
 use Rattle.mm_load.specs.WrittenItem.{Defined, paths_to}
 use Rattle.mm_load.proofs.TypeViews.{written_node, written_fold-node, written_ind}
-use Rattle.mm_load.specs.WrittenPlace.{local_of}
+use Rattle.mm_load.specs.WrittenPlace.{local_of, place_line}
 use Rattle.mm_load.proofs.FormedLemmas.{IsFormedType, IsFormedCalled, IsFormedEnd, IsFormedFunction}
 use Rattle.mm_load.proofs.KeptLemmas.{none_both, none_each, none_if, none_unless, some_of}
 
@@ -137,7 +137,7 @@ module _ (scope : Names) (n : ℕ) (low : (name : List ℕ) (k : ℕ) → scope 
 module _ (w : Function) (f : made.Function) (locals : length f.locals ≡ 1 + (length w.signature.params + length w.body.lets)) (blocks : length f.blocks ≡ length w.body.blocks) where
   known_place : (place : Place) → unknown_place w place ≡ [] → IsPlaceOf f (place_of place)
   known_place place none =
-      let low = ltb-false (length w.signature.params + length w.body.lets) (local_of place) (none_if (nat_lt (length w.signature.params + length w.body.lets) (local_of place)) place.line none) in
+      let low = ltb-false (length w.signature.params + length w.body.lets) (local_of place) (none_if (nat_lt (length w.signature.params + length w.body.lets) (local_of place)) (place_line place) none) in
       omega (arith, low, locals)
 
   known_label : (label : Label) → unknown_label w label ≡ [] → IsLabelOf f label.number

@@ -3,8 +3,6 @@ use Rattle.std.specs.Prelude.{◌&&◌, List, [], ◌∷◌, Bool, true, false, 
 use Rattle.std.specs.Bool.{IsTrue}
 use Rattle.std.specs.List.{list_all}
 use Rattle.std.specs.Option.{option_map_or}
-use Rattle.mm_ast.specs.declared.bodies.Base.{Base}
-use Rattle.mm_ast.specs.declared.bodies.Base.TheVariants as bases
 use Rattle.mm_ast.specs.declared.bodies.Block.{Block}
 use Rattle.mm_ast.specs.declared.bodies.Body.{Body}
 use Rattle.mm_ast.specs.declared.bodies.Call.{Call}
@@ -17,6 +15,8 @@ use Rattle.mm_ast.specs.declared.bodies.End.TheVariants as ends
 use Rattle.mm_ast.specs.declared.bodies.Operand.{Operand}
 use Rattle.mm_ast.specs.declared.bodies.Operand.TheVariants as operands
 use Rattle.mm_ast.specs.declared.bodies.Place.{Place}
+use Rattle.mm_ast.specs.declared.bodies.Place.TheVariants as places
+use Rattle.mm_ast.specs.declared.bodies.Projection.{Projection}
 use Rattle.mm_ast.specs.declared.bodies.Rvalue.{Rvalue}
 use Rattle.mm_ast.specs.declared.bodies.Rvalue.TheVariants as rvalues
 use Rattle.mm_ast.specs.declared.bodies.Statement.{Statement}
@@ -60,17 +60,18 @@ built_types types = list_all built_type types
 
 -- ---- bodies
 
-abbrev pub built_base : Base → Bool
-built_base (bases.Static path) = false
-built_base _ = true
-
 abbrev pub built_step : Step → Bool
 built_step (steps.Field number) = false
 built_step steps.Deref = false
 built_step (steps.Variant name) = false
 
+abbrev pub built_projection : Projection → Bool
+built_projection projection = built_step projection.first && list_all built_step projection.others
+
 unfoldable pub built_place : Place → Bool
-built_place place = built_base place.base && list_all built_step place.steps
+built_place (places.Static static) = false
+built_place (places.Projection projection) = built_projection projection
+built_place (places.Local local) = true
 
 unfoldable pub built_callee : Callee → Bool
 built_callee (callees.Method method) = false

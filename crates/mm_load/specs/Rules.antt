@@ -36,7 +36,7 @@ use Rattle.mm_ast.specs.declared.bodies.Operand.{Operand}
 use Rattle.mm_ast.specs.declared.bodies.Operand.TheVariants as operands
 use Rattle.mm_load.specs.declared.rule.Rule.{Rule}
 use Rattle.mm_load.specs.declared.rule.Rule.TheVariants.{UnknownName, DoubleName, WrongArity, BadMain, LongType}
-use Rattle.mm_load.specs.WrittenPlace.{local_of}
+use Rattle.mm_load.specs.WrittenPlace.{local_of, place_line}
 use Rattle.mm_load.specs.Names.{Names, path_named, main_path, names_in}
 use Rattle.mm_load.specs.Built.{IsBuilt}
 use Rattle.mm_load.specs.WrittenItem.{Defined, item_fold, functions_of, paths_in, crate_of}
@@ -73,7 +73,7 @@ unknown_in_types scope types = flat_map (unknown_in_type scope) types
 
 -- the locals are `_0`, the result, and one for each parameter and each `let`
 abbrev pub unknown_place : Function → Place → List ℕ
-unknown_place f place = line_if (nat_lt (length f.signature.params + length f.body.lets) (local_of place)) place.line
+unknown_place f place = line_if (nat_lt (length f.signature.params + length f.body.lets) (local_of place)) (place_line place)
 
 -- the labels are those of the blocks
 abbrev pub unknown_label : Function → Label → List ℕ

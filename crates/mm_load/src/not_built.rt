@@ -3,7 +3,7 @@ ghost use Rattle.std.specs.List.{list_all};
 ghost use Rattle.std.specs.Option.{option_map_or};
 ghost use Rattle.std.specs.Prelude.{◌≡◌, true, is_some, IfSome};
 ghost use Rattle.mm_load.specs.WrittenItem.{first_crate};
-ghost use Rattle.mm_load.specs.Built.{built_head, built_type, built_types, built_base, built_step, built_place, built_callee, built_operand, built_operands, built_rvalue, built_statement, built_called, built_call, built_end, built_block, built_body, built_bound, built_signature, built_function, built_definition, built_form, built_item, built_crates};
+ghost use Rattle.mm_load.specs.Built.{built_head, built_type, built_types, built_step, built_projection, built_place, built_callee, built_operand, built_operands, built_rvalue, built_statement, built_called, built_call, built_end, built_block, built_body, built_bound, built_signature, built_function, built_definition, built_form, built_item, built_crates};
 
 use mm_ast as ast;
 
@@ -48,15 +48,6 @@ fn built_types(types: &[ast::Type]) -> bool
     types.iter().all(|ty| built_type(ty))
 }
 
-fn built_base(base: &ast::Base) -> bool
-    ensures { result ≡ built_base base.now }
-{
-    match base {
-        ast::Base::Local(_) => true,
-        ast::Base::Static(_) => false,
-    }
-}
-
 fn built_step(step: &ast::Step) -> bool
     ensures { result ≡ built_step step.now }
 {
@@ -71,11 +62,21 @@ fn built_steps(steps: &[ast::Step]) -> bool
     steps.iter().all(|step| built_step(step))
 }
 
+fn built_projection(projection: &ast::Projection) -> bool
+    ensures { result ≡ built_projection projection.now }
+{
+    built_step(&projection.first) && built_steps(projection.others.as_slice())
+}
+
 #[tactic(auto, unfolding(crate::specs::Built::built_place))]
 fn built_place(place: &ast::Place) -> bool
     ensures { result ≡ built_place place.now }
 {
-    built_base(&place.base) && built_steps(place.steps.as_slice())
+    match place {
+        ast::Place::Local(_) => true,
+        ast::Place::Projection(projection) => built_projection(projection.get()),
+        ast::Place::Static(_) => false,
+    }
 }
 
 #[tactic(auto, unfolding(crate::specs::Built::built_callee))]

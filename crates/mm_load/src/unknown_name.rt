@@ -10,7 +10,7 @@ ghost use Rattle.mm_load.specs.declared.rule.Rule.TheVariants.{UnknownName};
 use crate::functions::Defined;
 use crate::load_error::{LoadError, fault_if};
 use crate::name_table::{NameTable, find, path_text, type_param_table};
-use crate::places::local_of;
+use crate::places::{local_of, place_line};
 use crate::rule::Rule;
 use mm_ast as ast;
 use std::alloc::Global;
@@ -64,7 +64,7 @@ fn check_place(function: &ast::Function, place: &ast::Place) -> Result<(), LoadE
     fault_if(
         function.body.lets.len() < behind_params,
         Rule::UnknownName,
-        place.line,
+        place_line(place),
     )
 }
 

@@ -1,15 +1,17 @@
-ghost use Rattle.std.specs.Prelude.{◌≡◌, [], ◌∷◌};
-ghost use Rattle.mm_forms.specs.Forms.{begins};
+ghost use Rattle.std.specs.Prelude.{◌≡◌, ◌-◌, [], ◌∷◌};
+ghost use Rattle.mm_forms.specs.Forms.{Map, begins, each_in};
 ghost use Rattle.mm_forms.specs.Given.{Gives};
 ghost use Rattle.mm_lex.specs.Lexemes as kinds;
 ghost use Rattle.mm_grammar.specs.Codes.{code, kind_code};
 ghost use Rattle.mm_grammar.specs.Grammar.{base, label, place, step, steps};
+ghost use Rattle.mm_grammar.specs.Places.{place_at, projected};
 ghost use Rattle.mm_grammar.specs.Reading.{begun, read};
 ghost use Rattle.mm_grammar.specs.Seen.{seen};
 
-use mm_ast::{Base, Label, Place, Step};
+use mm_ast::{Label, Local, Place, Projection, StaticPlace, Step};
 use mm_forms::Stop;
 use mm_grammar::cursor::Tokens;
+use mm_grammar::heads::Base;
 use mm_grammar::names::{name, path};
 use mm_grammar::pieces::{
     is_punct, label_number, line, local, number, past_punct, past_word, starts_local,
@@ -67,14 +69,18 @@ fn begins_step(tokens: Tokens<'_>) -> bool
     starts_either(Punct::Dot, Punct::At, tokens)
 }
 
-/// The projections of a place.
-#[tactic(auto, unfolding(mm_grammar::specs::Grammar::steps))]
-fn steps<'a>(alloc: Global, tokens: Tokens<'a>) -> Result<(Items<Step>, Tokens<'a>), Stop>
-    ensures { Gives (λ x. (x.0, seen x.1)) result (read steps (seen tokens.entry)) }
+/// The projections of a place behind so many others, where there are at most `limit` in all.
+fn steps_behind<'a>(
+    alloc: Global,
+    before: usize,
+    limit: usize,
+    tokens: Tokens<'a>,
+) -> Result<(Items<Step>, Tokens<'a>), Stop>
+    ensures { Gives (λ x. (x.0, seen x.1)) result (each_in code (begun step) (λ i. read step) (limit - before) before (seen tokens.entry)) }
 {
     let mut projections = Items::new(alloc);
     let mut rest = tokens;
-    'each: for place in 0..tokens.len() {
+    'each: for place in before..limit {
         if !begins_step(rest) {
             break;
         }
@@ -83,6 +89,14 @@ fn steps<'a>(alloc: Global, tokens: Tokens<'a>) -> Result<(Items<Step>, Tokens<'
         rest = after;
     }
     Ok((projections, rest))
+}
+
+/// The projections of a place.
+#[tactic(auto, unfolding(mm_grammar::specs::Grammar::steps))]
+fn steps<'a>(alloc: Global, tokens: Tokens<'a>) -> Result<(Items<Step>, Tokens<'a>), Stop>
+    ensures { Gives (λ x. (x.0, seen x.1)) result (read steps (seen tokens.entry)) }
+{
+    steps_behind(alloc, 0, tokens.len(), tokens)
 }
 
 /// The local or static with which a place begins.
@@ -96,7 +110,48 @@ fn base<'a>(alloc: Global, tokens: Tokens<'a>) -> Result<(Base, Tokens<'a>), Sto
     }
     let rest = past_word(Word::Static, tokens)?;
     let (path, rest) = path(alloc, rest)?;
-    Ok((Base::Static(Boxed::new(alloc, path)?), rest))
+    Ok((Base::Static(path), rest))
+}
+
+/// The place that a local and the projections behind it are.
+#[tactic(auto, unfolding(mm_grammar::specs::Grammar::steps))]
+fn local_place<'a>(
+    alloc: Global,
+    local: Local,
+    tokens: Tokens<'a>,
+) -> Result<(Place, Tokens<'a>), Stop>
+    ensures { Gives (λ x. (x.0, seen x.1)) result (read (Map (projected local) steps) (seen tokens.entry)) }
+{
+    if !begins_step(tokens) {
+        return Ok((Place::Local(local), tokens));
+    }
+    let (first, rest) = step(alloc, tokens)?;
+    let (others, rest) = steps_behind(alloc, 1, tokens.len(), rest)?;
+    let projection = Projection {
+        local,
+        first,
+        others,
+    };
+    Ok((Place::Projection(Boxed::new(alloc, projection)?), rest))
+}
+
+/// The place that what it begins with and the projections behind it are.
+fn place_behind<'a>(
+    alloc: Global,
+    line: u32,
+    base: Base,
+    tokens: Tokens<'a>,
+) -> Result<(Place, Tokens<'a>), Stop>
+    ensures { Gives (λ x. (x.0, seen x.1)) result (read (Map (place_at line base) steps) (seen tokens.entry)) }
+{
+    match base {
+        Base::Local(number) => local_place(alloc, Local { line, number }, tokens),
+        Base::Static(path) => {
+            let (steps, rest) = steps(alloc, tokens)?;
+            let place = StaticPlace { line, path, steps };
+            Ok((Place::Static(Boxed::new(alloc, place)?), rest))
+        }
+    }
 }
 
 /// A place.
@@ -106,6 +161,5 @@ pub fn place<'a>(alloc: Global, tokens: Tokens<'a>) -> Result<(Place, Tokens<'a>
 {
     let line = line(tokens)?;
     let (base, rest) = base(alloc, tokens)?;
-    let (steps, rest) = steps(alloc, rest)?;
-    Ok((Place { line, base, steps }, rest))
+    place_behind(alloc, line, base, rest)
 }

@@ -4,17 +4,20 @@ use Rattle.std.specs.Prelude.{flat_map}
 use Rattle.mm_names.specs.declared.word.Word.{Word as AnyWord}
 use Rattle.mm_names.specs.declared.word.Word.TheVariants as words
 use Rattle.mm_lex.specs.declared.punct.Punct.TheVariants as puncts
-use Rattle.mm_lex.specs.Lexemes.{LexemeKind, Word, Label, Number, Punct}
+use Rattle.mm_lex.specs.Lexemes.{LexemeKind, Word, Local, Label, Number, Punct}
 use Rattle.mm_ast.specs.declared.types.Type as types
 use Rattle.mm_ast.specs.declared.bodies.Step.{Step}
 use Rattle.mm_ast.specs.declared.bodies.Step.TheVariants as steps_
 use Rattle.mm_ast.specs.declared.bodies.Statement.{Statement}
 use Rattle.mm_ast.specs.declared.bodies.Statement.TheVariants as statements_
+use Rattle.mm_grammar.specs.declared.heads.Base.{Base}
+use Rattle.mm_grammar.specs.declared.heads.Base.TheVariants as bases
+use Rattle.mm_grammar.specs.Places.{place_at}
 use Rattle.mm_grammar.specs.Rules.{Sort, Types, Value, bare}
 use Rattle.mm_grammar.specs.Grammar.{path_args, label, step, steps, base, place, callee, named_operand, operand, next_operand, more_operands, operands, op, two_operands, binary, variant_name, new_head, new, dyn_trait, dyn_target, dyncast, built_rvalue, rvalue, set, statement, statements, arm, arms, otherwise, switch_head, cases, switch, called, call_place, arguments, called_with, call, drop_end, end_with_parts, end, block_end, block, more_blocks, blocks, declared, lets, body_blocks, body}
 use Rattle.mm_spell.specs.Listed.{behind_comma, listed}
-use Rattle.mm_spell.specs.TypeTokens.{type_tokens, path_args_tokens, callee_tokens}
-use Rattle.mm_spell_bodies.specs.BodyTokens.{step_tokens, base_tokens, place_tokens, operand_tokens, operands_tokens, op_word, variant_tokens, new_tokens, rvalue_tokens, statement_tokens, label_tokens, arm_tokens, switch_tokens, called_tokens, call_tokens, end_tokens, block_tokens, blocks_tokens, let_tokens, lets_tokens, body_tokens}
+use Rattle.mm_spell.specs.TypeTokens.{path_tokens, type_tokens, path_args_tokens, callee_tokens}
+use Rattle.mm_spell_bodies.specs.BodyTokens.{step_tokens, place_tokens, operand_tokens, operands_tokens, op_word, variant_tokens, new_tokens, rvalue_tokens, statement_tokens, label_tokens, arm_tokens, switch_tokens, called_tokens, call_tokens, end_tokens, block_tokens, blocks_tokens, let_tokens, lets_tokens, body_tokens}
 use Rattle.mm_shape.proofs.Writing.{Parts, Sorted, Rules, w_nothing, w_local, w_label, w_number, w_word, w_punct, w_ends, w_let, w_labelled, w_then, w_both, w_or, w_many, w_many_below, w_bare, w_made, w_map, w_at, w_inner, w_as, w_optional, w_closed, w_list}
 use Rattle.mm_print.proofs.TypeWriting.{name_written, path_written}
 
@@ -27,6 +30,17 @@ abbrev behind_dot : Step → List LexemeKind
 behind_dot (steps_.Field n) = Number n ∷ []
 behind_dot steps_.Deref = Punct puncts.Star ∷ []
 behind_dot (steps_.Variant n) = []
+
+-- what is written for the local or static with which a place begins
+abbrev base_tokens : Base → List LexemeKind
+base_tokens (bases.Local n) = Local n ∷ []
+base_tokens (bases.Static p) = Word words.Static ∷ path_tokens p
+
+-- a place is written as what it begins with, and the projections from it
+placed : (line : ℕ) (b : Base) (ss : List Step) → place_tokens (place_at line b ss) ≡ base_tokens b ++ flat_map step_tokens ss
+placed line (bases.Local n) [] = refl
+placed line (bases.Local n) (s ∷ ss) = refl
+placed line (bases.Static p) ss = refl
 
 -- three parts behind a word, put together from the left or from the right
 pub around : (w : AnyWord) (xs ys zs : List LexemeKind) → Word w ∷ (xs ++ (ys ++ zs)) ≡ Word w ∷ ((xs ++ ys) ++ zs)
@@ -67,7 +81,7 @@ module _ {M : Parts} where
 
   pub place_written : Rules M place 0 place_tokens
   unfolding place
-  place_written = w_map (w_at (w_both base_written steps_written))
+  place_written = w_made (λ p. placed p.0 p.1.0 p.1.1) (w_at (w_both base_written steps_written))
 
   pub variant_name_written : Rules M variant_name 0 variant_tokens
   unfolding variant_name

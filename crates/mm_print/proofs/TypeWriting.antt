@@ -11,6 +11,8 @@ use Rattle.mm_ast.specs.declared.types.Type.TheFolds.{fold-roll-Type}
 use Rattle.mm_ast.specs.declared.types.Head.TheVariants as heads
 use Rattle.mm_grammar.specs.Rules.{Sort, Types, Value, Rule, in_angles as grammar_in_angles}
 use Rattle.mm_grammar.specs.Grammar.{name, next_name, more_names, params, ty, next_type, more_types, some_types, args, segment, more_segments, segments, path, path_args, Shape, tys, fields, tuple, reference, boxed, fn_pointer, shape_of, behind_krate, named_shape, named, path_shape, shape, call_method, trait_method, called_method, method_of, method_callee, callee, type_node}
+use Rattle.mm_grammar.specs.declared.heads.CalledMethod.{CalledMethod}
+use Rattle.mm_grammar.specs.declared.heads.CalledMethod.TheVariants as methods
 use Rattle.mm_grammar.specs.declared.heads.TraitMethod.{TraitMethod}
 use Rattle.mm_shape.specs.Spellings.{spelled_by, spelled_within}
 use Rattle.mm_shape.specs.Shapes.{type_parts}
@@ -56,13 +58,13 @@ named_same line krate (Some p) = refl
 abbrev trait_method_tokens : TraitMethod → List LexemeKind
 trait_method_tokens m = path_args_tokens m.of ++ Punct puncts.Greater ∷ Punct puncts.PathSep ∷ (name_tokens m.name ++ args_tokens m.args)
 
-abbrev called_tokens : Option TraitMethod → List LexemeKind
-called_tokens None = Word words.CallTrait ∷ Punct puncts.Greater ∷ Punct puncts.PathSep ∷ Word words.Call ∷ []
-called_tokens (Some m) = trait_method_tokens m
+abbrev called_tokens : CalledMethod → List LexemeKind
+called_tokens (methods.Call line) = Word words.CallTrait ∷ Punct puncts.Greater ∷ Punct puncts.PathSep ∷ Word words.Call ∷ []
+called_tokens (methods.Trait m) = trait_method_tokens m
 
-method_same : (t : types.«Type») (called : Option TraitMethod) → callee_tokens (method_of t called) ≡ Punct puncts.Less ∷ (type_tokens t ++ Word words.As ∷ called_tokens called)
-method_same t None = ap (λ ks. Punct puncts.Less ∷ ks) (append_assoc (type_tokens t) (Word words.As ∷ []) (called_tokens None))
-method_same t (Some m) = ap (λ ks. Punct puncts.Less ∷ ks) (append_assoc (type_tokens t) (Word words.As ∷ []) (trait_method_tokens m))
+method_same : (t : types.«Type») (called : CalledMethod) → callee_tokens (method_of t called) ≡ Punct puncts.Less ∷ (type_tokens t ++ Word words.As ∷ called_tokens called)
+method_same t (methods.Call line) = ap (λ ks. Punct puncts.Less ∷ ks) (append_assoc (type_tokens t) (Word words.As ∷ []) (called_tokens (methods.Call line)))
+method_same t (methods.Trait m) = ap (λ ks. Punct puncts.Less ∷ ks) (append_assoc (type_tokens t) (Word words.As ∷ []) (trait_method_tokens m))
 
 module _ {M : Parts} where
   pub name_written : Rules M name 0 name_tokens
@@ -185,9 +187,8 @@ module _ {M : Parts} where
     call_method_written : Rules M call_method 0 called_tokens
     unfolding call_method
     call_method_written =
-        w_as {U = λ called. Word words.CallTrait ∷ Punct puncts.Greater ∷ Punct puncts.PathSep ∷ Word words.Call ∷ []}
-        (λ called ks s. ap called_tokens s.second.second.second.second.0)
-        (w_word words.CallTrait (w_punct puncts.Greater (w_punct puncts.PathSep (w_word words.Call (w_nothing refl)))))
+        w_made {U = λ p. Word words.CallTrait ∷ Punct puncts.Greater ∷ Punct puncts.PathSep ∷ Word words.Call ∷ []} (λ p. refl)
+        (w_at (w_word words.CallTrait (w_punct puncts.Greater (w_punct puncts.PathSep (w_bare words.Call refl)))))
 
     trait_method_written : Rules M trait_method 0 trait_method_tokens
     unfolding trait_method

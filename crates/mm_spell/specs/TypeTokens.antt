@@ -71,4 +71,4 @@ method_tokens m = self_tokens m.self_type ++ (path_args_tokens m.of ++ Punct Gre
 abbrev pub callee_tokens : Callee → List LexemeKind
 callee_tokens (callees.Direct p) = path_args_tokens p
 callee_tokens (callees.Method m) = method_tokens m
-callee_tokens (callees.Call t) = self_tokens t ++ Word words.CallTrait ∷ Punct Greater ∷ Punct PathSep ∷ Word words.Call ∷ []
+callee_tokens (callees.Call c) = self_tokens c.self_type ++ Word words.CallTrait ∷ Punct Greater ∷ Punct PathSep ∷ Word words.Call ∷ []

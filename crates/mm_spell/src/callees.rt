@@ -38,8 +38,8 @@ pub fn write_callee<'a>(callee: &'a Callee, out: &mut Vec<Spelled<'a>>) -> Resul
     match callee {
         Callee::Direct(path) => write_path_args(path, out),
         Callee::Method(method) => write_method(method, out),
-        Callee::Call(ty) => {
-            write_self(ty, out)?;
+        Callee::Call(call) => {
+            write_self(&call.self_type, out)?;
             write_word(Word::CallTrait, out)?;
             write_punct(Punct::Greater, out)?;
             write_punct(Punct::PathSep, out)?;

@@ -8,8 +8,9 @@ use Rattle.mm_ast.specs.declared.names.Name as names
 use Rattle.mm_ast.specs.declared.types.Type as types
 use Rattle.mm_ast.specs.declared.bodies.Label as labels
 use Rattle.mm_ast.specs.declared.bodies.Place.{Place}
-use Rattle.mm_ast.specs.declared.bodies.Base.{Base}
-use Rattle.mm_ast.specs.declared.bodies.Base.TheVariants as bases
+use Rattle.mm_ast.specs.declared.bodies.Place.TheVariants as places
+use Rattle.mm_ast.specs.declared.bodies.Projection.{Projection}
+use Rattle.mm_ast.specs.declared.bodies.StaticPlace.{StaticPlace}
 use Rattle.mm_ast.specs.declared.bodies.Step.{Step}
 use Rattle.mm_ast.specs.declared.bodies.Step.TheVariants as steps
 use Rattle.mm_ast.specs.declared.bodies.Operand.{Operand}
@@ -41,12 +42,16 @@ step_tokens (steps.Field n) = Punct Dot ∷ Number n ∷ []
 step_tokens steps.Deref = Punct Dot ∷ Punct Star ∷ []
 step_tokens (steps.Variant n) = Punct At ∷ name_tokens n
 
-abbrev pub base_tokens : Base → List LexemeKind
-base_tokens (bases.Local n) = Local n ∷ []
-base_tokens (bases.Static p) = Word words.Static ∷ path_tokens p
+abbrev pub projection_tokens : Projection → List LexemeKind
+projection_tokens p = Local p.local.number ∷ (step_tokens p.first ++ flat_map step_tokens p.others)
+
+abbrev pub static_place_tokens : StaticPlace → List LexemeKind
+static_place_tokens p = Word words.Static ∷ (path_tokens p.path ++ flat_map step_tokens p.steps)
 
 abbrev pub place_tokens : Place → List LexemeKind
-place_tokens p = base_tokens p.base ++ flat_map step_tokens p.steps
+place_tokens (places.Local l) = Local l.number ∷ []
+place_tokens (places.Projection p) = projection_tokens p
+place_tokens (places.Static p) = static_place_tokens p
 
 abbrev pub bool_word : Bool → word_type.Word
 bool_word true = words.True

@@ -1,9 +1,9 @@
 ghost use Rattle.std.specs.Prelude.{◌≡◌, OnOk, [], ◌∷◌, ◌++◌, flat_map};
 ghost use Rattle.mm_lex.specs.Lexemes as lexemes;
 ghost use Rattle.mm_spell.specs.Listed.{kinds};
-ghost use Rattle.mm_spell_bodies.specs.BodyTokens.{base_tokens, place_tokens, step_tokens};
+ghost use Rattle.mm_spell_bodies.specs.BodyTokens.{place_tokens, projection_tokens, static_place_tokens, step_tokens};
 
-use mm_ast::{Base, Place, Step};
+use mm_ast::{Place, Projection, StaticPlace, Step};
 use mm_lex::Punct;
 use mm_names::Word;
 use mm_spell::Spelled;
@@ -16,19 +16,6 @@ pub(crate) fn write_local<'a>(number: u64, out: &mut Vec<Spelled<'a>>) -> Result
 {
     out.push(Spelled::Local(number))?;
     Ok(())
-}
-
-/// Writes where a place begins.
-fn write_base<'a>(base: &'a Base, out: &mut Vec<Spelled<'a>>) -> Result<(), AllocError>
-    ensures { OnOk result (kinds out.new.items ≡ kinds out.old.items ++ base_tokens base.now) }
-{
-    match base {
-        Base::Local(number) => write_local(u64::from(*number), out),
-        Base::Static(path) => {
-            write_word(Word::Static, out)?;
-            write_path(path.get(), out)
-        }
-    }
 }
 
 /// Writes a projection.
@@ -61,6 +48,30 @@ fn write_steps<'a>(steps: &'a [Step], out: &mut Vec<Spelled<'a>>) -> Result<(), 
     Ok(())
 }
 
+/// Writes a local and the projections from it.
+fn write_projection<'a>(
+    projection: &'a Projection,
+    out: &mut Vec<Spelled<'a>>,
+) -> Result<(), AllocError>
+    ensures { OnOk result (kinds out.new.items ≡ kinds out.old.items ++ projection_tokens projection.now) }
+{
+    write_local(u64::from(projection.local.number), out)?;
+    write_step(&projection.first, out)?;
+    write_steps(projection.others.as_slice(), out)
+}
+
+/// Writes a static and the projections from it.
+fn write_static_place<'a>(
+    place: &'a StaticPlace,
+    out: &mut Vec<Spelled<'a>>,
+) -> Result<(), AllocError>
+    ensures { OnOk result (kinds out.new.items ≡ kinds out.old.items ++ static_place_tokens place.now) }
+{
+    write_word(Word::Static, out)?;
+    write_path(&place.path, out)?;
+    write_steps(place.steps.as_slice(), out)
+}
+
 /// Writes a place.
 pub(crate) fn write_place<'a>(
     place: &'a Place,
@@ -68,6 +79,9 @@ pub(crate) fn write_place<'a>(
 ) -> Result<(), AllocError>
     ensures { OnOk result (kinds out.new.items ≡ kinds out.old.items ++ place_tokens place.now) }
 {
-    write_base(&place.base, out)?;
-    write_steps(place.steps.as_slice(), out)
+    match place {
+        Place::Local(local) => write_local(u64::from(local.number), out),
+        Place::Projection(projection) => write_projection(projection.get(), out),
+        Place::Static(place) => write_static_place(place.get(), out),
+    }
 }

@@ -1,0 +1,5 @@
+mod ExampleLemmas
+mod MarkLemmas
+mod PartLemmas
+mod TableLemmas
+mod TermLemmas

@@ -1,0 +1,12 @@
+pub mod Bodies
+pub mod Code
+pub mod Defaults
+pub mod Example
+pub mod Kinds
+pub mod Marks
+pub mod Naming
+pub mod Tables
+pub mod Terms
+pub mod Types
+pub mod Valid
+pub mod Views

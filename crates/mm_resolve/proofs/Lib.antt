@@ -1,0 +1,4 @@
+mod DoubleItems
+mod DoubleLemmas
+mod FirstLemmas
+mod TableLemmas

@@ -1,0 +1,3 @@
+pub mod Doubles
+pub mod Resolving
+pub mod Scopes

@@ -1,0 +1,4 @@
+pub mod DropTargets
+pub mod Faults
+pub mod MainRule
+pub mod MentionRules

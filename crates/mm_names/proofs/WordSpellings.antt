@@ -1,5 +1,5 @@
 -- The word that some bytes spell is one.
-use Rattle.std.proofs.Common.{◌≡◌, ◌≢◌, ℕ, Bool, true, false, not, ◌&&◌, List, [], ◌∷◌, Option, Some, None, IfSome, IfNone, refl, sym, ap, ◌∙◌, subst}
+use Rattle.std.proofs.Common.{◌≡◌, ◌≢◌, ℕ, Bool, true, false, not, ◌&&◌, cond, List, [], ◌∷◌, Option, Some, None, IfSome, IfNone, refl, sym, ap, ◌∙◌, subst}
 use Rattle.std.proofs.lemmas.Bool.{and_parts}
 use Rattle.std.specs.List.{find, list_all}
 use Rattle.std.specs.Char.{is_ascii_alphabetic, is_ascii_alphanumeric, encode_utf8}
@@ -8,12 +8,20 @@ use Rattle.std.proofs.lemmas.Slice.Eq.{bytes_eq-Decides}
 use Rattle.std.proofs.lemmas.List.Elements.{All-contains}
 use Rattle.std.proofs.lemmas.List.Sums.{AllPass-from_list_all}
 use Rattle.std.proofs.lemmas.Option.{none-some}
-use Rattle.mm_terms.proofs.ListLemmas.{find-Some}
 use Rattle.mm_names.specs.declared.word.Word.{Word}
 use Rattle.mm_names.specs.declared.word.Word.TheVariants as words
 use Rattle.mm_names.specs.Words.{word_spelling}
 use Rattle.mm_names.specs.Names.{is_local_like, is_label_like}
 use Rattle.mm_names.specs.Runs.{all_words, word_in}
+
+-- what is found passes, and passes what each of the list does
+found : {X : Type 0} (test holds : X → Bool) (xs : List X) (x : X) → list_all holds xs ≡ true → find test xs ≡ Some x → (test x ≡ true) × (holds x ≡ true)
+found test holds [] x all is = absurd (cc is)
+found test holds (y ∷ ys) x all is = let parts = and_parts (holds y) (list_all holds ys) all in at parts.0 (found test holds ys x parts.1) (test y) refl is
+  where
+    at : holds y ≡ true → (find test ys ≡ Some x → (test x ≡ true) × (holds x ≡ true)) → (b : Bool) → test y ≡ b → cond b (Some y) (find test ys) ≡ Some x → (test x ≡ true) × (holds x ≡ true)
+    at held again true passes here = let same : y ≡ x = cc here in (ap test (sym same) ∙ passes, ap holds (sym same) ∙ held)
+    at held again false fails later = again later
 
 -- each word is found by its spelling
 pub word_in-word_spelling : (word : Word) → word_in (word_spelling word) ≡ Some word
@@ -73,7 +81,7 @@ word_in-word_spelling words.FnItem = refl
 pub word_in_spells : (bytes : List ℕ) (word : Word) → word_in bytes ≡ Some word → word_spelling word ≡ bytes
 unfolding word_in
 word_in_spells bytes word h =
-    (bytes_eq-Decides (word_spelling word) bytes).0 (find-Some (λ w. bytes_eq (word_spelling w) bytes) all_words word h).1
+    (bytes_eq-Decides (word_spelling word) bytes).0 (found (λ w. bytes_eq (word_spelling w) bytes) (λ w. true) all_words word refl h).0
 
 -- where no word spells the bytes, none is found, and the other way round
 pub word_in-none : (bytes : List ℕ) → ((word : Word) → word_spelling word ≢ bytes) → word_in bytes ≡ None
@@ -90,10 +98,6 @@ no_word_spells bytes none word spells = none-some word (sym none ∙ ap word_in 
 pub word_in_is : (bytes : List ℕ) (r : Option Word) → IfSome r (λ word. word_spelling word ≡ bytes) → IfNone r ((word : Word) → word_spelling word ≢ bytes) → r ≡ word_in bytes
 word_in_is bytes (Some word) spells none = sym (subst (λ b. word_in b ≡ Some word) spells (word_in-word_spelling word))
 word_in_is bytes None spells none = sym (word_in-none bytes none)
-
--- what passes each of a list passes what is found in it
-all_found : {X : Type 0} (test holds : X → Bool) (xs : List X) (x : X) → list_all holds xs ≡ true → find test xs ≡ Some x → holds x ≡ true
-all_found test holds xs x all found = All-contains (λ y. holds y ≡ true) xs x (AllPass-from_list_all holds xs all) (find-Some test xs x found).0
 
 -- an ASCII letter, and then ASCII letters and digits
 abbrev pub is_ascii_word : List ℕ → Bool
@@ -125,7 +129,7 @@ pub word_spelling-plain : (word : Word) → IsPlain (word_spelling word)
 unfolding word_in
 word_spelling-plain word =
     let cs = word_spelling word in
-    let plain = all_found (λ w. bytes_eq (word_spelling w) cs) is_plain all_words word plain_words (word_in-word_spelling word) in
+    let plain = (found (λ w. bytes_eq (word_spelling w) cs) is_plain all_words word plain_words (word_in-word_spelling word)).1 in
     let ascii = is_ascii_word cs in
     let first = and_parts (ascii && not (is_local_like cs) && not (is_label_like cs)) (bytes_eq (encode_utf8_all cs) cs) plain in
     let second = and_parts (ascii && not (is_local_like cs)) (not (is_label_like cs)) first.0 in

@@ -6,8 +6,8 @@ use Rattle.mm_ast.specs.declared.types.Type as types
 use Rattle.mm_mentions.specs.ImplHeads.{is_param_head, occurs_in, names_crate_here, names_crate, written_alone, are_params}
 use Rattle.mm_mentions.specs.Scopes.{Names}
 use Rattle.std.proofs.lemmas.Bool.{eq-eqb}
-use Rattle.mm_mentions.specs.Trees.{head_of, children_of}
-use Rattle.mm_mentions.proofs.TreeLemmas.{type_fold-parts, list_any-map}
+use Rattle.mm_definitions.specs.Trees.{head_of, children_of}
+use Rattle.mm_definitions.proofs.TreeLemmas.{type_fold-parts, list_any-map}
 
 -- the head, or a child
 pub occurs_in_parts : (name : List ℕ) (t : types.«Type») → occurs_in name t ≡ (is_param_head name (head_of t) || list_any (occurs_in name) (children_of t))

@@ -4,8 +4,8 @@ use Rattle.std.specs.List.{flat_map}
 use Rattle.std.proofs.lemmas.List.Folds.{flat_map-map}
 use Rattle.mm_ast.specs.declared.items.Item.{Item}
 use Rattle.mm_mentions.specs.ItemMentions.{form_mentions, item_mentions, items_mentions}
-use Rattle.mm_mentions.specs.Trees.{item_line, form_of, items_in}
-use Rattle.mm_mentions.proofs.TreeLemmas.{item_fold-parts}
+use Rattle.mm_definitions.specs.Trees.{item_line, form_of, items_in}
+use Rattle.mm_definitions.proofs.TreeLemmas.{item_fold-parts}
 
 pub item_parts : (krate : List ℕ) (item : Item) → item_mentions krate item ≡ form_mentions krate (item_line item) (form_of item) ++ items_mentions krate (items_in item)
 unfolding item_mentions

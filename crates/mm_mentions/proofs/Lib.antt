@@ -1,8 +1,6 @@
-pub mod DefinitionLemmas
 pub mod Followed
 pub mod HeadLemmas
 pub mod ItemLemmas
 pub mod ScopeLemmas
 pub mod TermLemmas
-pub mod TreeLemmas
 pub mod TypeLemmas

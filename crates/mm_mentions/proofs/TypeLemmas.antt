@@ -5,9 +5,9 @@ use Rattle.std.proofs.lemmas.List.{length-map}
 use Rattle.std.proofs.lemmas.List.Folds.{flat_map-map}
 use Rattle.mm_ast.specs.declared.types.Type as types
 use Rattle.mm_mentions.specs.Scopes.{Scope}
-use Rattle.mm_mentions.specs.Trees.{line_of, head_of, children_of}
+use Rattle.mm_definitions.specs.Trees.{line_of, head_of, children_of}
 use Rattle.mm_mentions.specs.TypeMentions.{head_mentions, names_in, names_in_all, constructors}
-use Rattle.mm_mentions.proofs.TreeLemmas.{type_fold-parts}
+use Rattle.mm_definitions.proofs.TreeLemmas.{type_fold-parts}
 
 pub names_in_parts : (in_where : Bool) (scope : Scope) (t : types.«Type») → names_in in_where scope t ≡ head_mentions in_where scope (line_of t) (head_of t) (length (children_of t)) ++ names_in_all in_where scope (children_of t)
 unfolding names_in

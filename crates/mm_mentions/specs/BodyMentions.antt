@@ -20,8 +20,8 @@ use Rattle.mm_ast.specs.declared.bodies.Statement.{Statement}
 use Rattle.mm_ast.specs.declared.bodies.Statement.TheVariants as statements
 use Rattle.mm_ast.specs.declared.bodies.Switch.{Switch}
 use Rattle.mm_mentions.specs.declared.frame.Frame.{Frame}
-use Rattle.mm_mentions.specs.declared.kinds.Kind.TheVariants as kinds
-use Rattle.mm_mentions.specs.declared.kinds.Wanted.TheVariants as wants
+use Rattle.mm_definitions.specs.declared.kinds.Kind.TheVariants as kinds
+use Rattle.mm_definitions.specs.declared.kinds.Wanted.TheVariants as wants
 use Rattle.mm_mentions.specs.declared.mention.Mention.{Mention}
 use Rattle.mm_mentions.specs.declared.mention.What.TheVariants as whats
 use Rattle.mm_mentions.specs.CalleeMentions.{named_mentions, callee_mentions, new_mentions}

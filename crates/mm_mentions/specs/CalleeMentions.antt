@@ -6,13 +6,13 @@ use Rattle.mm_ast.specs.declared.bodies.MethodCallee.{MethodCallee}
 use Rattle.mm_ast.specs.declared.names.Name.{Name}
 use Rattle.mm_ast.specs.declared.names.Path.{Path}
 use Rattle.mm_ast.specs.declared.names.PathWithArgs.{PathWithArgs}
-use Rattle.mm_mentions.specs.declared.kinds.Kind.TheVariants as kinds
-use Rattle.mm_mentions.specs.declared.kinds.Wanted.{Wanted}
-use Rattle.mm_mentions.specs.declared.kinds.Wanted.TheVariants as wants
+use Rattle.mm_definitions.specs.declared.kinds.Kind.TheVariants as kinds
+use Rattle.mm_definitions.specs.declared.kinds.Wanted.{Wanted}
+use Rattle.mm_definitions.specs.declared.kinds.Wanted.TheVariants as wants
 use Rattle.mm_mentions.specs.declared.mention.Mention.{Mention}
 use Rattle.mm_mentions.specs.declared.mention.What.TheVariants as whats
 use Rattle.mm_mentions.specs.Mentions.{at, path_at, member_at}
-use Rattle.mm_mentions.specs.Paths.{path_in, path_named}
+use Rattle.mm_definitions.specs.Paths.{path_in, path_named}
 use Rattle.mm_mentions.specs.Scopes.{Scope}
 use Rattle.mm_mentions.specs.TypeMentions.{written_type, written_types}
 

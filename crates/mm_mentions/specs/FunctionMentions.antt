@@ -9,8 +9,8 @@ use Rattle.mm_ast.specs.declared.items.Closure.{Closure}
 use Rattle.mm_ast.specs.declared.items.Function.{Function}
 use Rattle.mm_ast.specs.declared.items.Method.{Method}
 use Rattle.mm_ast.specs.declared.items.Signature.{Signature}
-use Rattle.mm_mentions.specs.declared.kinds.Kind.TheVariants as kinds
-use Rattle.mm_mentions.specs.declared.kinds.Wanted.TheVariants as wants
+use Rattle.mm_definitions.specs.declared.kinds.Kind.TheVariants as kinds
+use Rattle.mm_definitions.specs.declared.kinds.Wanted.TheVariants as wants
 use Rattle.mm_mentions.specs.declared.mention.Mention.{Mention}
 use Rattle.mm_mentions.specs.BodyMentions.{body_mentions}
 use Rattle.mm_mentions.specs.Mentions.{path_at}

@@ -7,9 +7,9 @@ use Rattle.mm_ast.specs.declared.names.Name.{Name}
 use Rattle.mm_ast.specs.declared.types.Head.{Head}
 use Rattle.mm_ast.specs.declared.types.Head.TheVariants as heads
 use Rattle.mm_ast.specs.declared.types.Type as types
-use Rattle.mm_mentions.specs.Paths.{path_named}
+use Rattle.mm_definitions.specs.Paths.{path_named}
 use Rattle.mm_mentions.specs.Scopes.{Names}
-use Rattle.mm_mentions.specs.Trees.{head_of, children_of, type_fold}
+use Rattle.mm_definitions.specs.Trees.{head_of, children_of, type_fold}
 
 -- ---- the type parameters
 

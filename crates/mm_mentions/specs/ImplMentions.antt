@@ -11,8 +11,8 @@ use Rattle.mm_ast.specs.declared.items.TraitImpl.{TraitImpl}
 use Rattle.mm_ast.specs.declared.names.Name.{Name}
 use Rattle.mm_ast.specs.declared.names.Path.{Path}
 use Rattle.mm_ast.specs.declared.types.Type as types
-use Rattle.mm_mentions.specs.declared.kinds.Kind.TheVariants as kinds
-use Rattle.mm_mentions.specs.declared.kinds.Wanted.TheVariants as wants
+use Rattle.mm_definitions.specs.declared.kinds.Kind.TheVariants as kinds
+use Rattle.mm_definitions.specs.declared.kinds.Wanted.TheVariants as wants
 use Rattle.mm_mentions.specs.declared.mention.Mention.{Mention}
 use Rattle.mm_mentions.specs.declared.mention.What.TheVariants as whats
 use Rattle.mm_mentions.specs.BodyMentions.{body_mentions}
@@ -21,7 +21,7 @@ use Rattle.mm_mentions.specs.FunctionMentions.{scope_with, bounds_mentions, func
 use Rattle.mm_mentions.specs.ImplHeads.{occurring, head_names_crate, is_drop_target, adt_path}
 use Rattle.mm_mentions.specs.Mentions.{at, member_at}
 use Rattle.mm_mentions.specs.Scopes.{Names, Scope, of_params, scope_of}
-use Rattle.mm_mentions.specs.Trees.{line_of, head_of}
+use Rattle.mm_definitions.specs.Trees.{line_of, head_of}
 use Rattle.mm_mentions.specs.TypeMentions.{written_type}
 
 -- each type parameter of an impl: whether it occurs in these types of its head

@@ -15,7 +15,7 @@ use Rattle.mm_mentions.specs.FunctionMentions.{scope_with, function_mentions, cl
 use Rattle.mm_mentions.specs.ImplMentions.{impl_mentions}
 use Rattle.mm_mentions.specs.Scopes.{Names, Scope, of_params}
 use Rattle.mm_mentions.specs.TermMentions.{term_mentions}
-use Rattle.mm_mentions.specs.Trees.{item_fold}
+use Rattle.mm_definitions.specs.Trees.{item_fold}
 use Rattle.mm_mentions.specs.TypeMentions.{written_type, written_types}
 
 -- ---- definitions

@@ -1,17 +1,12 @@
 pub mod BodyMentions
 pub mod CalleeMentions
-pub mod Definitions
-pub mod DynCompatible
 pub mod Frames
 pub mod FunctionMentions
 pub mod ImplHeads
 pub mod ImplMentions
 pub mod ItemMentions
-pub mod Kinds
 pub mod Mentions
-pub mod Paths
 pub mod Scopes
 pub mod Seen
 pub mod TermMentions
-pub mod Trees
 pub mod TypeMentions

@@ -2,11 +2,11 @@
 use Rattle.std.specs.Prelude.{ℕ, Option}
 use Rattle.mm_ast.specs.declared.names.Name.{Name}
 use Rattle.mm_ast.specs.declared.names.Path.{Path}
-use Rattle.mm_mentions.specs.declared.kinds.Wanted.{Wanted}
+use Rattle.mm_definitions.specs.declared.kinds.Wanted.{Wanted}
 use Rattle.mm_mentions.specs.declared.mention.Mention.{Mention}
 use Rattle.mm_mentions.specs.declared.mention.What.{What}
 use Rattle.mm_mentions.specs.declared.mention.What.TheVariants as whats
-use Rattle.mm_mentions.specs.Paths.{path_in, path_named}
+use Rattle.mm_definitions.specs.Paths.{path_in, path_named}
 
 abbrev pub at : ℕ → What → Mention
 at line what = record { line = line; what = what }

@@ -5,8 +5,8 @@ use Rattle.mm_ast.specs.declared.terms.Term as terms
 use Rattle.mm_ast.specs.declared.terms.Term.TheFolds.{fold-Term}
 use Rattle.mm_ast.specs.declared.terms.TermHead.{TermHead}
 use Rattle.mm_ast.specs.declared.terms.TermHead.TheVariants as heads
-use Rattle.mm_mentions.specs.declared.kinds.Kind.TheVariants as kinds
-use Rattle.mm_mentions.specs.declared.kinds.Wanted.TheVariants as wants
+use Rattle.mm_definitions.specs.declared.kinds.Kind.TheVariants as kinds
+use Rattle.mm_definitions.specs.declared.kinds.Wanted.TheVariants as wants
 use Rattle.mm_mentions.specs.declared.mention.Mention.{Mention}
 use Rattle.mm_mentions.specs.CalleeMentions.{callee_mentions, new_mentions}
 use Rattle.mm_mentions.specs.Mentions.{path_at}

@@ -5,13 +5,13 @@ use Rattle.mm_ast.specs.declared.names.Path.{Path}
 use Rattle.mm_ast.specs.declared.types.Head.{Head}
 use Rattle.mm_ast.specs.declared.types.Head.TheVariants as heads
 use Rattle.mm_ast.specs.declared.types.Type as types
-use Rattle.mm_mentions.specs.declared.kinds.Kind.TheVariants as kinds
-use Rattle.mm_mentions.specs.declared.kinds.Wanted.TheVariants as wants
+use Rattle.mm_definitions.specs.declared.kinds.Kind.TheVariants as kinds
+use Rattle.mm_definitions.specs.declared.kinds.Wanted.TheVariants as wants
 use Rattle.mm_mentions.specs.declared.mention.Mention.{Mention}
 use Rattle.mm_mentions.specs.declared.mention.What.TheVariants as whats
 use Rattle.mm_mentions.specs.Mentions.{at, path_at, dyn_at}
 use Rattle.mm_mentions.specs.Scopes.{Scope}
-use Rattle.mm_mentions.specs.Trees.{line_of, type_fold}
+use Rattle.mm_definitions.specs.Trees.{line_of, type_fold}
 
 -- `dyn` and a trait, unless it stands in a where clause
 abbrev pub dyn_mentions : Bool → ℕ → Path → List Mention

@@ -3,13 +3,12 @@ ghost use Rattle.std.specs.Prelude.{◌≡◌, [], ◌∷◌, ◌++◌, OnOk};
 ghost use Rattle.mm_mentions.specs.CalleeMentions.{callable, callee_mentions, fields_at, method_callee_mentions, named_mentions, new_mentions};
 ghost use Rattle.mm_mentions.specs.Seen.{seen};
 
-use crate::kinds::{Kind, Wanted};
 use crate::mention::{FieldsMention, Mention, What};
 use crate::one_mention::{mention, mention_member, mention_path};
-use crate::paths::path_and_name;
 use crate::scope::Scope;
 use crate::types::{mention_type, mention_types};
 use mm_ast::{Callee, MethodCallee, Name, Path, PathWithArgs, Type};
+use mm_definitions::{Kind, Wanted, path_and_name};
 use mm_terms::NoMemory;
 use std::alloc::Global;
 

@@ -7,12 +7,12 @@ ghost use Rattle.mm_mentions.specs.Seen.{names_of, seen};
 ghost use Rattle.mm_mentions.specs.TypeMentions.{written_type};
 
 use crate::blocks::mention_body;
-use crate::kinds::{Kind, Wanted};
 use crate::mention::Mention;
 use crate::one_mention::mention_path;
 use crate::scope::{NameSet, Scope, param_names};
 use crate::types::{mention_names, mention_names_in, mention_type, mention_types};
 use mm_ast::{Body, Bound, BoundForm, Closure, Function, Method, Signature, Type};
+use mm_definitions::{Kind, Wanted};
 use mm_terms::NoMemory;
 use std::alloc::Global;
 

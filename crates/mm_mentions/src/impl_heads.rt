@@ -3,12 +3,12 @@ ghost use Rattle.std.specs.List.{list_all, list_any};
 ghost use Rattle.std.specs.Prelude.{◌≡◌, ◌∷◌, ◌||◌, ℕ, List, IfOk, OnOk};
 ghost use Rattle.mm_mentions.specs.ImplHeads.{adt_path, are_params, head_names_crate, is_drop_target, is_param_head, names_crate, names_crate_here, occurring, occurs_in, written_alone};
 ghost use Rattle.mm_mentions.specs.Seen.{names_of};
-ghost use Rattle.mm_mentions.specs.Trees.{head_of};
+ghost use Rattle.mm_definitions.specs.Trees.{head_of};
 
-use crate::paths::path_text;
 use crate::scope::NameSet;
 use indexmap::IndexSet;
 use mm_ast::{Head, Name, TraitImpl, Type};
+use mm_definitions::path_text;
 use mm_terms::{NoMemory, Text};
 use std::alloc::Global;
 

@@ -10,12 +10,12 @@ use crate::blocks::mention_body;
 use crate::callees::mention_named;
 use crate::functions::{mention_bounds, mention_function};
 use crate::impl_heads::{adt_path, head_names_crate, is_drop_target, occurring};
-use crate::kinds::{Kind, Wanted};
 use crate::mention::{Mention, What};
 use crate::one_mention::{mention, mention_member};
 use crate::scope::{NameSet, Scope, param_names};
 use crate::types::mention_type;
 use mm_ast::{DropImpl, Function, Impl, ImplForm, ImplMethod, Name, Path, TraitImpl, Type};
+use mm_definitions::{Kind, Wanted};
 use mm_terms::NoMemory;
 use std::alloc::Global;
 

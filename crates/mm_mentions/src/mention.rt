@@ -1,4 +1,4 @@
-use crate::kinds::Wanted;
+use mm_definitions::Wanted;
 use mm_terms::Text;
 
 /// Something that a text mentions, and that a rule of loading asks about.

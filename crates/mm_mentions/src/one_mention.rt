@@ -2,10 +2,9 @@
 ghost use Rattle.std.specs.Prelude.{◌≡◌, [], ◌∷◌, ◌++◌, OnOk};
 ghost use Rattle.mm_mentions.specs.Mentions.{at, dyn_at, member_at, path_at};
 
-use crate::kinds::Wanted;
 use crate::mention::{Mention, PathMention, What};
-use crate::paths::{path_and_name, path_text};
 use mm_ast::{Name, Path};
+use mm_definitions::{Wanted, path_and_name, path_text};
 use mm_terms::NoMemory;
 use std::alloc::Global;
 

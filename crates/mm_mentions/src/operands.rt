@@ -6,12 +6,12 @@ ghost use Rattle.std.specs.List.{flat_map};
 
 use crate::callees::{mention_callee, mention_named, mention_new};
 use crate::frame::{Frame, mention_local};
-use crate::kinds::{Kind, Wanted};
 use crate::mention::{Mention, What};
 use crate::one_mention::{mention, mention_dyn, mention_path};
 use crate::scope::Scope;
 use crate::types::{constructors_of, mention_names_in, mention_type};
 use mm_ast::{DynTrait, New, Operand, Place, Rvalue, Statement};
+use mm_definitions::{Kind, Wanted};
 use mm_terms::NoMemory;
 use std::alloc::Global;
 

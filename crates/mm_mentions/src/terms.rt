@@ -4,11 +4,11 @@ ghost use Rattle.mm_mentions.specs.Seen.{seen};
 ghost use Rattle.mm_mentions.specs.TermMentions.{term_head_mentions, term_mentions, terms_mentions};
 
 use crate::callees::{mention_callee, mention_new};
-use crate::kinds::{Kind, Wanted};
 use crate::mention::Mention;
 use crate::one_mention::mention_path;
 use crate::scope::Scope;
 use mm_ast::{Term, TermHead};
+use mm_definitions::{Kind, Wanted};
 use mm_terms::NoMemory;
 use std::alloc::Global;
 

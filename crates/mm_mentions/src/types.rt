@@ -1,14 +1,14 @@
 //! What is mentioned by types.
 ghost use Rattle.std.specs.Prelude.{◌≡◌, ◌+◌, ◌++◌, map, sum, length, OnOk, IfOk};
 ghost use Rattle.mm_mentions.specs.Seen.{seen};
-ghost use Rattle.mm_mentions.specs.Trees.{children_of, head_of, line_of};
+ghost use Rattle.mm_definitions.specs.Trees.{children_of, head_of, line_of};
 ghost use Rattle.mm_mentions.specs.TypeMentions.{constructors, dyn_mentions, head_mentions, names_in, names_in_all, written_type, written_types};
 
-use crate::kinds::{Kind, Wanted};
 use crate::mention::{Mention, What};
 use crate::one_mention::{mention, mention_dyn, mention_path};
 use crate::scope::{Scope, has_self, is_param};
 use mm_ast::{Head, Path, Type};
+use mm_definitions::{Kind, Wanted};
 use mm_terms::NoMemory;
 use std::alloc::Global;
 

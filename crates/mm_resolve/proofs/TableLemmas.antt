@@ -3,11 +3,11 @@ use Rattle.std.proofs.Common.{◌≡◌, ℕ, ◌+◌, ◌<◌, ◌≤◌, List,
 use Rattle.std.proofs.lemmas.List.{take_more, take_all}
 use Rattle.std.specs.List.{find}
 use Rattle.std.specs.Option.{option_or}
-use Rattle.mm_mentions.specs.declared.kinds.Kind.{Kind}
-use Rattle.mm_mentions.specs.declared.kinds.Kind.TheVariants.{Struct, Enum, Closure}
-use Rattle.mm_mentions.specs.declared.named.Named.{Named}
-use Rattle.mm_mentions.specs.declared.kinds.Wanted.{Wanted}
-use Rattle.mm_mentions.specs.declared.kinds.Wanted.TheVariants.{One, Adt, Whole}
+use Rattle.mm_definitions.specs.declared.kinds.Kind.{Kind}
+use Rattle.mm_definitions.specs.declared.kinds.Kind.TheVariants.{Struct, Enum, Closure}
+use Rattle.mm_definitions.specs.declared.named.Named.{Named}
+use Rattle.mm_definitions.specs.declared.kinds.Wanted.{Wanted}
+use Rattle.mm_definitions.specs.declared.kinds.Wanted.TheVariants.{One, Adt, Whole}
 use Rattle.mm_resolve.specs.Resolving.{is_named, first_of, look_up}
 use Rattle.mm_resolve.specs.Scopes.{Scope, Knows, all, visible, found}
 use Rattle.mm_resolve.specs.declared.scope_table.ScopeTable.{ScopeTable}

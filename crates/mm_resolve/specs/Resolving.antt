@@ -5,9 +5,9 @@ use Rattle.std.specs.Option.{option_map}
 use Rattle.std.specs.Str.{bytes_eq}
 use Rattle.indexmap.specs.IndexMap.{IndexMap, get_by}
 use denote.Ref.{Bor}
-use Rattle.mm_mentions.specs.declared.kinds.Kind.{Kind}
-use Rattle.mm_mentions.specs.declared.named.Named.{Named}
-use Rattle.mm_mentions.specs.contracts.kinds.KindPartialEq.TheImpl as kind
+use Rattle.mm_definitions.specs.declared.kinds.Kind.{Kind}
+use Rattle.mm_definitions.specs.declared.named.Named.{Named}
+use Rattle.mm_definitions.specs.contracts.kinds.KindPartialEq.TheImpl as kind
 use Rattle.mm_resolve.specs.declared.index.Key.{Key}
 
 -- it is of this kind and has this path

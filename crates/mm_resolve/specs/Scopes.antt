@@ -1,11 +1,11 @@
 -- What a path can lead to from a crate.
 use Rattle.std.specs.Prelude.{◌≡◌, ℕ, List, ◌++◌, Option, filter}
 use Rattle.std.specs.Option.{option_or}
-use Rattle.mm_mentions.specs.declared.kinds.Kind.{Kind}
-use Rattle.mm_mentions.specs.declared.kinds.Kind.TheVariants.{Struct, Enum, Closure}
-use Rattle.mm_mentions.specs.declared.named.Named.{Named}
-use Rattle.mm_mentions.specs.declared.kinds.Wanted.{Wanted}
-use Rattle.mm_mentions.specs.declared.kinds.Wanted.TheVariants.{One, Adt, Whole}
+use Rattle.mm_definitions.specs.declared.kinds.Kind.{Kind}
+use Rattle.mm_definitions.specs.declared.kinds.Kind.TheVariants.{Struct, Enum, Closure}
+use Rattle.mm_definitions.specs.declared.named.Named.{Named}
+use Rattle.mm_definitions.specs.declared.kinds.Wanted.{Wanted}
+use Rattle.mm_definitions.specs.declared.kinds.Wanted.TheVariants.{One, Adt, Whole}
 use Rattle.mm_resolve.specs.Resolving.{first_of, look_up}
 use Rattle.mm_resolve.specs.declared.scope_table.ScopeTable.{ScopeTable}
 
@@ -31,6 +31,14 @@ abbrev pub found : (Kind → List ℕ → Option Named) → Wanted → List ℕ 
 found first (One kind) path = first kind path
 found first Adt path = option_or (first Struct path) (first Enum path)
 found first Whole path = option_or (first Struct path) (first Closure path)
+
+-- what a path leads to, `pub` or not
+abbrev pub leads_to : Scope → Wanted → List ℕ → Option Named
+leads_to scope = found (first_of (all scope))
+
+-- what it leads to by the tables
+abbrev pub leading : ScopeTable → Wanted → List ℕ → Option Named
+leading tables = found (look_up tables.all)
 
 -- the tables resolve as the scope says
 pub record Knows (tables : ScopeTable) (scope : Scope) : Type 0 where

@@ -1,12 +1,12 @@
 ghost use Rattle.std.specs.Prelude.{◌≡◌, ◌&&◌, ℕ, List, cond, Some, None, IfOk, OnOk};
 ghost use Rattle.std.specs.Option.{option_map, option_or};
 ghost use Rattle.std.specs.Str.{bytes_eq};
-ghost use Rattle.mm_mentions.specs.declared.kinds.Kind as kinds;
-ghost use Rattle.mm_mentions.specs.declared.named.Named as defined;
+ghost use Rattle.mm_definitions.specs.declared.kinds.Kind as kinds;
+ghost use Rattle.mm_definitions.specs.declared.named.Named as defined;
 ghost use Rattle.mm_resolve.specs.Resolving.{is_named, look_up, first_of};
 
 use indexmap::IndexMap;
-use mm_mentions::{Kind, Named};
+use mm_definitions::{Kind, Named};
 use mm_terms::NoMemory;
 use std::alloc::Global;
 

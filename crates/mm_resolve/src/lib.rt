@@ -9,4 +9,5 @@ mod names_seen;
 mod scope_table;
 
 pub use double_name::doubled;
+pub use names_seen::repeated;
 pub use scope_table::ScopeTable;

@@ -70,3 +70,12 @@ pub fn add_doubles<T: HasName>(
     add_repeated(&outside, &mut seen, things, lines)?;
     Ok(())
 }
+
+/// The lines of the names that stand before already in their list.
+pub fn repeated(alloc: Global, names: &[Name]) -> Result<Items<u32>, NoMemory>
+    ensures { IfOk result (λ lines. lines ≡ repeated [] names.now) }
+{
+    let mut lines = Items::new(alloc);
+    add_doubles(alloc, names, &mut lines)?;
+    Ok(lines)
+}

@@ -1,12 +1,12 @@
 ghost use Rattle.std.specs.Prelude.{◌≡◌, [], ◌∷◌, ℕ, List, cond, filter, is_some, IfOk, OnOk};
 ghost use Rattle.std.specs.Option.{option_map, option_or};
-ghost use Rattle.mm_mentions.specs.declared.kinds.Kind as kinds;
+ghost use Rattle.mm_definitions.specs.declared.kinds.Kind as kinds;
 ghost use Rattle.mm_resolve.specs.Resolving.{look_up, first_of};
-ghost use Rattle.mm_resolve.specs.Scopes.{Scope, Knows, next, all, visible, found};
+ghost use Rattle.mm_resolve.specs.Scopes.{Scope, Knows, next, visible, found, leads_to, leading};
 
 use crate::index::{Index, add, find};
 use indexmap::IndexMap;
-use mm_mentions::{Kind, Named, Wanted};
+use mm_definitions::{Kind, Named, Wanted};
 use mm_terms::NoMemory;
 use std::alloc::Global;
 
@@ -125,7 +125,8 @@ impl<'a> ScopeTable<'a> {
 
     /// What a path leads to, whether or not it may be named.
     pub fn find(&self, wanted: Wanted, path: &[u8]) -> Option<&'a Named>
-        ensures { (scope : Scope) → Knows self.now scope → option_map (λ d. d.now) result ≡ found (first_of (all scope)) wanted path.now }
+        ensures scope { (scope : Scope) → Knows self.now scope → option_map (λ d. d.now) result ≡ leads_to scope wanted path.now }
+        ensures tables { option_map (λ d. d.now) result ≡ leading self.now wanted path.now }
     {
         found(&self.all, wanted, path)
     }

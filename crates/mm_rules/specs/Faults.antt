@@ -1,5 +1,5 @@
 -- Faults of a tree, and which is the first.
-use Rattle.std.specs.Prelude.{ℕ, ◌+◌, ◌*◌, ◌≤◌, List, All, Contains}
+use Rattle.std.specs.Prelude.{◌≡◌, ℕ, ◌<◌, ◌≤◌, ◌⊎◌, List, All, Contains}
 use Rattle.mm_rules.specs.declared.fault.CrateRule.{CrateRule}
 use Rattle.mm_rules.specs.declared.fault.CrateRule.TheVariants.{UnknownName, PrivateName, DoubleName, WrongArity, BadMain, FreeParam, BadDropImpl, Overlap, Orphan, NotDyn, BadPlace, BadConst, LongType}
 use Rattle.mm_rules.specs.declared.fault.Fault.{Fault}
@@ -20,11 +20,11 @@ place_of BadPlace = 10
 place_of BadConst = 11
 place_of LongType = 12
 
--- faults are in order by their rules, and of one rule by their lines, of which there are fewer than 2^32
-abbrev pub rank : Fault → ℕ
-rank fault = place_of fault.rule * 4294967296 + fault.line
+-- a fault comes no later than another: its rule is asked earlier, or it is the same rule, and its line comes no later
+abbrev pub NoLater : Fault → Fault → Type 0
+NoLater f g = (place_of f.rule < place_of g.rule) ⊎ ((f.rule ≡ g.rule) × (f.line ≤ g.line))
 
--- it is one of the faults, and none of them comes before it
+-- it is one of the faults, and comes no later than each of them
 pub record IsFirst (faults : List Fault) (fault : Fault) : Type 0 where
   pub one : Contains faults fault
-  pub first : All (λ other. rank fault ≤ rank other) faults
+  pub first : All (NoLater fault) faults

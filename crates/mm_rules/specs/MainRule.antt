@@ -1,5 +1,5 @@
 -- The rule on the function with which a run begins.
-use Rattle.std.specs.Prelude.{ℕ, List, [], ◌∷◌, ◌++◌, flat_map, codes, Bool, true, false, not, ◌&&◌, nat_eq, length, ◌-◌}
+use Rattle.std.specs.Prelude.{ℕ, List, [], ◌++◌, flat_map, codes, Bool, false, not, ◌&&◌, nat_eq, length, ◌-◌}
 use Rattle.std.specs.List.{list_any, slice_get}
 use Rattle.std.specs.Option.{option_map_or}
 use Rattle.std.specs.Str.{bytes_eq}
@@ -11,11 +11,7 @@ use Rattle.mm_ast.specs.declared.items.Item.{Item}
 use Rattle.mm_ast.specs.declared.items.Item.TheViews.{out-Item}
 use Rattle.mm_ast.specs.declared.items.ItemForm.{ItemForm}
 use Rattle.mm_ast.specs.declared.items.ItemForm.TheVariants as forms
-
--- the line, where something fails
-abbrev pub line_if : Bool → ℕ → List ℕ
-line_if true line = line ∷ []
-line_if false line = []
+use Rattle.mm_resolve.specs.Doubles.{line_if}
 
 -- a function with which a run can begin: it has neither type parameters nor parameters, and is not `inline`
 abbrev pub is_entry : Function → Bool

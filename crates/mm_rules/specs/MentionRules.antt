@@ -5,19 +5,15 @@ use Rattle.mm_mentions.specs.declared.mention.Mention.{Mention}
 use Rattle.mm_mentions.specs.declared.mention.PathMention.{PathMention}
 use Rattle.mm_mentions.specs.declared.mention.What.{What}
 use Rattle.mm_mentions.specs.declared.mention.What.TheVariants as what
-use Rattle.mm_mentions.specs.declared.kinds.Kind.TheVariants.{Variant, Trait}
-use Rattle.mm_mentions.specs.declared.named.Named.{Named}
-use Rattle.mm_mentions.specs.declared.kinds.Wanted.{Wanted}
-use Rattle.mm_mentions.specs.declared.kinds.Wanted.TheVariants.{One}
+use Rattle.mm_definitions.specs.declared.kinds.Kind.TheVariants.{Variant, Trait}
+use Rattle.mm_definitions.specs.declared.named.Named.{Named}
+use Rattle.mm_definitions.specs.declared.kinds.Wanted.{Wanted}
+use Rattle.mm_definitions.specs.declared.kinds.Wanted.TheVariants.{One}
 use Rattle.mm_resolve.specs.Resolving.{first_of}
-use Rattle.mm_resolve.specs.Scopes.{Scope, all, visible, found}
+use Rattle.mm_resolve.specs.Scopes.{Scope, visible, found, leads_to}
 use Rattle.mm_rules.specs.declared.fault.CrateRule.{CrateRule}
 use Rattle.mm_rules.specs.declared.fault.CrateRule.TheVariants.{UnknownName, PrivateName, WrongArity, FreeParam, BadDropImpl, Orphan, NotDyn, LongType}
 use Rattle.mm_rules.specs.declared.fault.Fault.{Fault}
-
--- the definition that a path leads to, `pub` or not
-abbrev pub leads_to : Scope → Wanted → List ℕ → Option Named
-leads_to scope wanted path = found (first_of (all scope)) wanted path
 
 -- the definition that a path may name
 abbrev pub names : Scope → Wanted → List ℕ → Option Named

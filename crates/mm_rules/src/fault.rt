@@ -1,5 +1,5 @@
 ghost use Rattle.std.specs.Prelude.{◌≡◌};
-ghost use Rattle.mm_rules.specs.Faults.{rank};
+ghost use Rattle.mm_rules.specs.Faults.{place_of};
 
 /// A rule on a tree. They are asked in this order.
 #[derive(Clone, Copy, Debug, PartialEq, Eq)]
@@ -35,19 +35,19 @@ pub enum CrateRule {
     LongType,
 }
 
+impl CrateRule {
+    /// Its place among the rules.
+    pub(crate) fn place(self) -> u8
+        ensures { result ≡ place_of self }
+    {
+        self as u8
+    }
+}
+
 /// A rule that fails, and a line where it does.
 #[derive(Clone, Copy, Debug, PartialEq, Eq)]
 pub struct Fault {
     pub rule: CrateRule,
     /// From 1.
     pub line: u32,
-}
-
-impl Fault {
-    /// Where the fault stands among all: by the rules first, and then by the lines.
-    pub(crate) fn rank(self) -> u64
-        ensures { result ≡ rank self }
-    {
-        (self.rule as u64) * 4_294_967_296 + u64::from(self.line)
-    }
 }

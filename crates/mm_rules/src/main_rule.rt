@@ -4,7 +4,8 @@ ghost use Rattle.std.specs.Option.{option_map_or};
 ghost use Rattle.mm_ast.specs.declared.items.Function.{Function};
 ghost use Rattle.std.specs.List.{list_any, flat_map};
 ghost use Rattle.mm_ast.specs.declared.items.Item.TheViews.{out-Item};
-ghost use Rattle.mm_rules.specs.MainRule.{line_if, is_entry, is_called_main, is_function, is_main, bad_entry, bad_main_in, bad_main};
+ghost use Rattle.mm_resolve.specs.Doubles.{line_if};
+ghost use Rattle.mm_rules.specs.MainRule.{is_entry, is_called_main, is_function, is_main, bad_entry, bad_main_in, bad_main};
 
 use mm_ast as ast;
 use mm_terms::NoMemory;

@@ -1,13 +1,14 @@
 //! The rules on what a crate mentions.
 ghost use Rattle.std.specs.Prelude.{◌≡◌, ◌++◌, [], ◌∷◌, is_none, not, nat_eq, OnOk};
-ghost use Rattle.mm_mentions.specs.declared.kinds.Wanted as wants;
-ghost use Rattle.mm_resolve.specs.Scopes.{Scope, Knows};
-ghost use Rattle.mm_rules.specs.MentionRules.{leads_to, names, fits, fails_of, operands_fit, rule_if, broken_path, broken, at_line, faults_in};
-ghost use Rattle.mm_mentions.specs.declared.kinds.Wanted.TheVariants.{One};
-ghost use Rattle.mm_mentions.specs.declared.kinds.Kind.TheVariants.{Variant, Trait};
+ghost use Rattle.mm_definitions.specs.declared.kinds.Wanted as wants;
+ghost use Rattle.mm_resolve.specs.Scopes.{Scope, Knows, leads_to};
+ghost use Rattle.mm_rules.specs.MentionRules.{names, fits, fails_of, operands_fit, rule_if, broken_path, broken, at_line, faults_in};
+ghost use Rattle.mm_definitions.specs.declared.kinds.Wanted.TheVariants.{One};
+ghost use Rattle.mm_definitions.specs.declared.kinds.Kind.TheVariants.{Variant, Trait};
 
 use crate::fault::{CrateRule, Fault};
-use mm_mentions::{FieldsMention, Kind, Mention, Named, PathMention, Wanted, What};
+use mm_definitions::{Kind, Named, Wanted};
+use mm_mentions::{FieldsMention, Mention, PathMention, What};
 use mm_resolve::ScopeTable;
 use mm_terms::NoMemory;
 use sqlite_items::Items;

@@ -1,19 +1,28 @@
 //! The first of several faults.
-ghost use Rattle.std.specs.Prelude.{◌≡◌, ◌≤◌, ◌⊎◌, [], IfSome, IfNone};
-ghost use Rattle.mm_rules.specs.Faults.{IsFirst, rank};
+ghost use Rattle.std.specs.Prelude.{◌≡◌, ◌⊎◌, [], true, false, IfSome, IfNone};
+ghost use Rattle.mm_rules.specs.Faults.{IsFirst, NoLater};
 
 use crate::fault::Fault;
+
+/// Whether a fault comes no later than another.
+fn is_no_later(one: Fault, other: Fault) -> bool
+    ensures yes { result ≡ true → NoLater one other }
+    ensures no { result ≡ false → NoLater other one }
+{
+    let (place, there) = (one.rule.place(), other.rule.place());
+    place < there || (place == there && one.line <= other.line)
+}
 
 /// The one of two faults that comes first.
 fn earlier(one: Fault, other: Fault) -> Fault
     ensures one { (result ≡ one) ⊎ (result ≡ other) }
-    ensures before_one { rank result ≤ rank one }
-    ensures before_other { rank result ≤ rank other }
+    ensures before_one { NoLater result one }
+    ensures before_other { NoLater result other }
 {
-    if other.rank() < one.rank() {
-        return other;
+    if is_no_later(one, other) {
+        return one;
     }
-    one
+    other
 }
 
 /// The first of these faults, if there are any.

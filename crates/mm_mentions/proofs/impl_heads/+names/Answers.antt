@@ -1,6 +1,6 @@
 use Rattle.std.proofs.Common.{◌||◌, sym, ◌∙◌, ap}
 use Rattle.mm_mentions.specs.ImplHeads.{is_param_head, occurs_in, occurring}
-use Rattle.mm_mentions.specs.Trees.{head_of}
+use Rattle.mm_definitions.specs.Trees.{head_of}
 use Rattle.mm_mentions.specs.Seen.{names_of}
 use Rattle.mm_mentions.proofs.HeadLemmas.{gathered, occurs_in_parts}
 use Rattle.mm_mentions.proofs.impl_heads.+names.Goals as goal

@@ -1,6 +1,6 @@
 use Rattle.std.proofs.Common.{◌++◌, sym, ◌∙◌, ap}
 use Rattle.mm_mentions.specs.ItemMentions.{form_mentions, items_mentions}
-use Rattle.mm_mentions.specs.Trees.{item_line, form_of}
+use Rattle.mm_definitions.specs.Trees.{item_line, form_of}
 use Rattle.mm_mentions.proofs.Followed.{followed}
 use Rattle.mm_mentions.proofs.ItemLemmas.{item_parts}
 use Rattle.mm_mentions.proofs.items.+items.Goals as goal

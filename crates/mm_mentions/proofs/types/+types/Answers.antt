@@ -1,6 +1,6 @@
 use Rattle.std.proofs.Common.{length, ◌++◌, sym, ◌∙◌, ap}
 use Rattle.mm_mentions.specs.Seen.{seen}
-use Rattle.mm_mentions.specs.Trees.{line_of, head_of, children_of}
+use Rattle.mm_definitions.specs.Trees.{line_of, head_of, children_of}
 use Rattle.mm_mentions.specs.TypeMentions.{head_mentions, names_in_all}
 use Rattle.mm_mentions.proofs.Followed.{followed}
 use Rattle.mm_mentions.proofs.TypeLemmas.{names_in_parts}

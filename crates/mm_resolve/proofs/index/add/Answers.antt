@@ -2,9 +2,9 @@ use Rattle.std.proofs.Common.{◌≡◌, ◌&&◌, ℕ, List, Bool, true, false,
 use Rattle.std.specs.Option.{option_map, option_or}
 use Rattle.std.specs.Str.{bytes_eq}
 use Rattle.indexmap.specs.IndexMap.{get_by}
-use Rattle.mm_mentions.specs.declared.kinds.Kind as kinds
-use Rattle.mm_mentions.specs.declared.named.Named.{Named}
-use Rattle.mm_mentions.specs.contracts.kinds.KindPartialEq.TheImpl as kind_eq
+use Rattle.mm_definitions.specs.declared.kinds.Kind as kinds
+use Rattle.mm_definitions.specs.declared.named.Named.{Named}
+use Rattle.mm_definitions.specs.contracts.kinds.KindPartialEq.TheImpl as kind_eq
 use Rattle.mm_resolve.specs.declared.index.Key.{Key}
 use Rattle.mm_resolve.specs.contracts.index.KeyPartialEq.TheImpl as key_eq
 use Rattle.mm_resolve.specs.contracts.index.KeyEq.TheImpl.Laws.{laws-law}

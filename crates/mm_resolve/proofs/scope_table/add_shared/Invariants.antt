@@ -1,6 +1,6 @@
 use Rattle.std.proofs.Common.{◌≡◌, ℕ, List, take, filter}
 use Rattle.std.specs.Option.{option_or}
-use Rattle.mm_mentions.specs.declared.kinds.Kind as kinds
+use Rattle.mm_definitions.specs.declared.kinds.Kind as kinds
 use Rattle.mm_resolve.specs.Resolving.{look_up, first_of}
 use Rattle.mm_resolve.proofs.scope_table.add_shared.Given as goal
 

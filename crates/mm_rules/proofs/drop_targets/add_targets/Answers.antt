@@ -1,4 +1,4 @@
-use Rattle.std.proofs.Common.{◌≡◌, ◌++◌, sym, ◌∙◌, ap, arith}
+use Rattle.std.proofs.Common.{◌++◌, sym, ◌∙◌, ap}
 use Rattle.std.proofs.lemmas.List.{append-nil, take_all}
 use Rattle.mm_rules.specs.DropTargets.{target_of, targets_in}
 use Rattle.mm_rules.proofs.FaultLemmas.{flat_map-more}

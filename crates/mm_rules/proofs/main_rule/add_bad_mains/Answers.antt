@@ -1,8 +1,9 @@
-use Rattle.std.proofs.Common.{◌≡◌, ◌++◌, sym, ◌∙◌, ap, arith}
+use Rattle.std.proofs.Common.{◌++◌, sym, ◌∙◌, ap}
 use Rattle.std.specs.List.{flat_map}
 use Rattle.std.proofs.lemmas.List.{append-nil, take_all}
 use Rattle.mm_ast.specs.declared.items.Item.TheViews.{out-Item}
-use Rattle.mm_rules.specs.MainRule.{bad_entry, line_if}
+use Rattle.mm_resolve.specs.Doubles.{line_if}
+use Rattle.mm_rules.specs.MainRule.{bad_entry}
 use Rattle.mm_rules.proofs.FaultLemmas.{flat_map-more}
 use Rattle.mm_rules.proofs.main_rule.add_bad_mains.Goals as goal
 

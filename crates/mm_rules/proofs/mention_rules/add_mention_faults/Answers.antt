@@ -1,4 +1,4 @@
-use Rattle.std.proofs.Common.{◌≡◌, ◌++◌, sym, ◌∙◌, ap, arith}
+use Rattle.std.proofs.Common.{◌++◌, sym, ◌∙◌, ap}
 use Rattle.std.proofs.lemmas.List.{append-nil, take_all}
 use Rattle.mm_rules.specs.MentionRules.{at_line, broken, faults_in}
 use Rattle.mm_rules.proofs.FaultLemmas.{flat_map-more}

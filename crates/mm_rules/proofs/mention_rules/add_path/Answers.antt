@@ -1,7 +1,8 @@
-use Rattle.std.proofs.Common.{◌≡◌, ◌++◌, not, is_some, is_none, Option, Some, None, refl, sym, ◌∙◌, ap}
+use Rattle.std.proofs.Common.{◌≡◌, ◌++◌, not, is_some, is_none, Option, Some, None, refl, ◌∙◌, ap}
 use Rattle.mm_rules.specs.declared.fault.CrateRule.TheVariants.{UnknownName, PrivateName, WrongArity}
-use Rattle.mm_mentions.specs.declared.named.Named.{Named}
-use Rattle.mm_rules.specs.MentionRules.{leads_to, names, rule_if, at_line}
+use Rattle.mm_definitions.specs.declared.named.Named.{Named}
+use Rattle.mm_rules.specs.MentionRules.{names, rule_if, at_line}
+use Rattle.mm_resolve.specs.Scopes.{leads_to}
 use Rattle.mm_rules.proofs.FaultLemmas.{three_at}
 use Rattle.mm_rules.proofs.mention_rules.add_path.Goals as goal
 

@@ -1,4 +1,4 @@
-use Rattle.std.proofs.Common.{◌≡◌, [], ◌∷◌, ◌++◌, take, sym, ◌∙◌, ap, subst, arith}
+use Rattle.std.proofs.Common.{◌∷◌, take, sym, ◌∙◌, ap, subst}
 use Rattle.std.proofs.lemmas.List.{take_all, take_more}
 use Rattle.mm_rules.specs.Faults.{IsFirst}
 use Rattle.mm_rules.proofs.FaultLemmas.{first_alone, first_more}

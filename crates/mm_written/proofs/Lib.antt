@@ -1,0 +1,4 @@
+pub mod ItemLemmas
+pub mod ListLemmas
+pub mod TermLemmas
+pub mod TypeLemmas

@@ -1,0 +1,15 @@
+-- How many parts a list may have.
+use Rattle.std.specs.Prelude.{◌&&◌, List, length, Bool, not, nat_eq, nat_lt}
+use Rattle.std.specs.List.{list_all}
+
+-- fewer than 2^32
+unfoldable pub few : {A : Type 0} → List A → Bool
+few xs = nat_lt (length xs) 4294967296
+
+-- one at least
+abbrev pub some : {A : Type 0} → List A → Bool
+some xs = not (nat_eq (length xs) 0)
+
+-- few, and each of them passes the test
+abbrev pub few_each : {A : Type 0} → (A → Bool) → List A → Bool
+few_each test xs = few xs && list_all test xs

@@ -1,0 +1,3 @@
+mod ParamLemmas
+mod TermLemmas
+pub mod TypeLemmas

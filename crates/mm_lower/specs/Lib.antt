@@ -1,0 +1,9 @@
+pub mod Bodies
+pub mod Callees
+pub mod Items
+pub mod Params
+pub mod Paths
+pub mod Places
+pub mod Seen
+pub mod Terms
+pub mod Types

@@ -27,7 +27,7 @@ use Rattle.mm_ast.specs.declared.items.Trait.{Trait}
 use Rattle.mm_ast.specs.declared.items.TraitImpl.{TraitImpl}
 use Rattle.mm_ast.specs.declared.items.Variant.{Variant}
 use Rattle.mm_written.specs.Bodies.{written_body}
-use Rattle.mm_written.specs.Lists.{few, few_each}
+use Rattle.mm_written.specs.Lists.{few, few_each, few_in_self}
 use Rattle.mm_written.specs.Names.{written_name, written_names}
 use Rattle.mm_written.specs.Terms.{written_term}
 use Rattle.mm_written.specs.Types.{written_type, written_types, written_result, written_args}
@@ -57,7 +57,7 @@ written_function f =
 unfoldable pub written_closure : Closure → Bool
 written_closure c =
     written_name c.name && written_names c.type_params && written_types c.captures && written_signature c.signature
-    && written_body (length c.signature.params) c.body
+    && written_body (length c.signature.params) c.body && few_in_self c.type_params
 
 unfoldable pub written_struct : Struct → Bool
 written_struct s = written_name s.name && written_names s.type_params && written_types s.fields

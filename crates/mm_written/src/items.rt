@@ -7,7 +7,7 @@ ghost use Rattle.mm_written.specs.Items.{written_function, written_closure, writ
 ghost use Rattle.mm_written.specs.Lists.{few_each};
 
 use crate::bodies::written_body;
-use crate::lists::few;
+use crate::lists::{few, few_in_self};
 use crate::names::{written_name, written_names};
 use crate::signatures::{written_bounds, written_signature};
 use crate::terms::written_term;
@@ -36,6 +36,7 @@ fn written_closure(closure: &ast::Closure) -> bool
         && written_types(closure.captures.as_slice())
         && written_signature(&closure.signature)
         && written_body(closure.signature.params.len(), &closure.body)
+        && few_in_self(closure.type_params.as_slice())
 }
 
 #[tactic(auto, unfolding(crate::specs::Items::written_struct))]

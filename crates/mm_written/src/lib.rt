@@ -14,7 +14,7 @@ mod terms;
 mod types;
 
 use crate::items::written_items;
-use crate::lists::few;
+use crate::lists::{few, some};
 use crate::names::written_name;
 use mm_ast::{Ast, Crate};
 
@@ -31,11 +31,13 @@ fn each_crate(crates: &[Crate]) -> bool
     crates.iter().all(|krate| written_crate(krate))
 }
 
-/// Whether the tree has what each tree has that is read from a text within the limit: names are names, heads take the
-/// children that they have, and no list and no type is too long to be counted in 32 bits.
+/// Whether the tree has what each tree has that is read from a text within the limit: there is a crate, names are names, heads
+/// take the children that they have, and no list and no type is too long to be counted in 32 bits.
 #[tactic(auto, unfolding(crate::specs::Written::is_written))]
 pub fn is_written(tree: &Ast) -> bool
     ensures { result ≡ is_written tree.now }
 {
-    few(tree.crates.as_slice()) && each_crate(tree.crates.as_slice())
+    some(tree.crates.as_slice())
+        && few(tree.crates.as_slice())
+        && each_crate(tree.crates.as_slice())
 }

@@ -1,3 +1,3 @@
-mod ParamLemmas
-mod TermLemmas
+pub mod ParamLemmas
+pub mod TermLemmas
 pub mod TypeLemmas

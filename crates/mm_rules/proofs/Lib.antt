@@ -1,3 +1,3 @@
-mod FaultLemmas
+pub mod FaultLemmas
 pub mod KeptLemmas
-mod TreeLemmas
+pub mod TreeLemmas

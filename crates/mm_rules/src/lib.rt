@@ -10,4 +10,4 @@ mod order;
 mod tree_faults;
 
 pub use fault::{CrateRule, Fault};
-pub use tree_faults::check;
+pub use tree_faults::{all_definitions, check};

@@ -20,9 +20,14 @@ use mm_terms::NoMemory;
 use sqlite_items::Items;
 use std::alloc::Global;
 
-/// What each crate defines.
-fn all_definitions(alloc: Global, crates: &[ast::Crate]) -> Result<Vec<Items<Named>>, NoMemory>
-    ensures { IfOk result (λ defined. defined.items ≡ all_defined start crates.now) }
+/// What each crate of a text defines, for the crates in their order: an element for each crate. The definitions of a crate have
+/// the numbers behind those of the crates before it.
+///
+/// # Errors
+///
+/// Out of memory. It comes too where a number is 2^32 or more, which no text within the limit brings about.
+pub fn all_definitions(alloc: Global, crates: &[ast::Crate]) -> Result<Vec<Items<Named>>, NoMemory>
+    ensures defined { IfOk result (λ defined. defined.items ≡ all_defined start crates.now) }
 {
     let mut defined = Vec::new(alloc);
     let mut first = 0;

@@ -21,11 +21,11 @@ use Rattle.mm_ast.specs.declared.items.Function.{Function}
 use Rattle.mm_ast.specs.declared.types.Head.{Head}
 use Rattle.mm_ast.specs.declared.types.Head.TheVariants as heads
 use Rattle.mm_ast.specs.declared.types.Type as written
-use Rattle.mm_load.specs.Built.{built_head, built_type, built_types, built_place, built_callee, built_called, built_operands, built_call, built_end, built_statement, built_block, built_body, built_bound, built_signature, built_function}
+use Rattle.mm_built.specs.Built.{built_head, built_type, built_types, built_place, built_callee, built_called, built_operands, built_call, built_end, built_statement, built_block, built_body, built_bound, built_signature, built_function}
 use Rattle.mm_load.specs.Meaning.{head_in, type_of}
 use Rattle.mm_load.specs.Names.{Names}
 use Rattle.mm_ast.specs.Written.{Takes, IsWrittenType, IsWrittenResult, IsWrittenCalled, IsWrittenEnd, IsWrittenBlock, IsWrittenFunction}
-use Rattle.mm_load.proofs.BuiltLemmas.{built_type-parts, built_types-each}
+use Rattle.mm_built.proofs.BuiltLemmas.{built_type_parts, built_types-each}
 use Rattle.mm_load.proofs.TypeViews.{head_of, children_of, type_ind, written_type-head, written_type-children}
 use Rattle.mm_load.proofs.WrittenLemmas.{type_of-parts}
 
@@ -57,7 +57,7 @@ WouldBeFormed t = built_type t ≡ true → IsWrittenType t → IsFormedType t
 
 formed_above : (t : written.Type) → All WouldBeFormed (children_of t) → WouldBeFormed t
 formed_above t each built is =
-    let parts = and_parts (built_head (head_of t)) (list_all built_type (children_of t)) (sym (built_type-parts t) ∙ built) in
+    let parts = and_parts (built_head (head_of t)) (list_all built_type (children_of t)) (sym (built_type_parts t) ∙ built) in
     let below = AllPass-from_list_all built_type (children_of t) parts.1 in
     let written = written_type-children t is in
     of_parts t parts.0 (written_type-head t is) (λ k d within. each k d within (below k d within) (written k d within))

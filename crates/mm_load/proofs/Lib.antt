@@ -1,6 +1,5 @@
 pub mod ApartLemmas
 pub mod AskingLemmas
-pub mod BuiltLemmas
 pub mod ChainLemmas
 pub mod ColonLemmas
 pub mod DefinedLemmas

@@ -14,10 +14,10 @@ use Rattle.mm_ast.specs.declared.items.ItemForm.{ItemForm}
 use Rattle.mm_ast.specs.declared.items.ItemForm.TheVariants as forms
 use Rattle.mm_ast.specs.declared.names.Name.{Name}
 use Rattle.mm_names.specs.Names.{IsName}
-use Rattle.mm_load.specs.Built.{built_definition, built_form, built_item, built_crates, built_function, IsBuilt}
+use Rattle.mm_built.specs.Built.{built_definition, built_form, built_item, built_crates, built_function, IsBuilt}
 use Rattle.mm_ast.specs.Written.{IsWrittenFunction, IsWrittenDefinition, IsWrittenForm, IsWrittenItem, IsWrittenCrate, IsWritten}
 use Rattle.mm_load.specs.WrittenItem.{first_crate, crate_of}
-use Rattle.mm_load.proofs.BuiltLemmas.{built_item-form, built_item-inside}
+use Rattle.mm_built.proofs.BuiltLemmas.{built_item-form, built_item-inside}
 use Rattle.mm_load.proofs.FormLemmas.{function_form}
 use Rattle.mm_load.proofs.ItemViews.{items_in, item_ind, written_item-form, written_item-inside}
 

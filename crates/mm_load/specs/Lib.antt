@@ -1,5 +1,4 @@
 pub mod Asking
-pub mod Built
 pub mod Meaning
 pub mod Names
 pub mod Rules

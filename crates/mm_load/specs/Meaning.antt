@@ -45,7 +45,7 @@ use Rattle.mm_plain.specs.declared.program.Op.TheVariants as ops
 use Rattle.mm_plain.specs.declared.program.Arm.{Arm}
 use Rattle.mm_plain.specs.declared.program.Operand.{Operand}
 use Rattle.mm_plain.specs.declared.program.Operand.TheVariants.{Copy, Move, Num, Truth}
-use Rattle.mm_load.specs.Built.{IsBuilt}
+use Rattle.mm_built.specs.Built.{IsBuilt}
 use Rattle.mm_load.specs.Names.{Names, path_named, main_path, names_in}
 use Rattle.mm_load.specs.WrittenItem.{Defined, functions_of, paths_in, crate_of}
 use Rattle.mm_load.specs.Rules.{KeepsRules}

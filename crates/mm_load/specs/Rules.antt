@@ -38,7 +38,7 @@ use Rattle.mm_load.specs.declared.rule.Rule.{Rule}
 use Rattle.mm_load.specs.declared.rule.Rule.TheVariants.{UnknownName, DoubleName, WrongArity, BadMain, LongType}
 use Rattle.mm_load.specs.WrittenPlace.{local_of, place_line}
 use Rattle.mm_load.specs.Names.{Names, path_named, main_path, names_in}
-use Rattle.mm_load.specs.Built.{IsBuilt}
+use Rattle.mm_built.specs.Built.{IsBuilt}
 use Rattle.mm_load.specs.WrittenItem.{Defined, item_fold, functions_of, paths_in, crate_of}
 use Rattle.mm_load.specs.WrittenType.{written_fold, line_of}
 

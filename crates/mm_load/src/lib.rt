@@ -1,16 +1,16 @@
 //! Looking up the names of a tree, and the rules that it has to keep.
 #![tactic(auto)]
 
-ghost use Rattle.std.specs.Prelude.{◌≡◌, ℕ, map, IfOk, Err};
+ghost use Rattle.std.specs.Prelude.{◌≡◌, ℕ, map, is_some, IfOk, IfSome, Err};
 ghost use Rattle.mm_ast.specs.declared.items.Ast.{Ast};
 ghost use Rattle.mm_plain.specs.declared.program.Program.{Program};
 ghost use Rattle.mm_load.specs.Asking.{Judges};
-ghost use Rattle.mm_load.specs.Built.{IsBuilt};
+ghost use Rattle.mm_built.specs.Built.{is_built, IsBuilt};
 ghost use Rattle.mm_load.specs.Meaning.{IsProgram, program_of};
 ghost use Rattle.mm_load.specs.Names.{look_up};
 ghost use Rattle.mm_load.specs.Rules.{IsFirstFault, IsFirstIn, KeepsIn, KeepsRules};
 ghost use Rattle.mm_load.specs.Seen.{function_seen};
-ghost use Rattle.mm_load.specs.WrittenItem.{functions_of, paths_in};
+ghost use Rattle.mm_load.specs.WrittenItem.{functions_of, paths_in, crate_of};
 ghost use Rattle.mm_load.specs.declared.load_error.LoadError.TheVariants as errors;
 ghost use Rattle.mm_load.specs.declared.rule.Rule as rules;
 
@@ -23,7 +23,6 @@ pub mod laws;
 mod load_error;
 mod long_type;
 mod name_table;
-mod not_built;
 mod places;
 mod program;
 mod rule;
@@ -34,9 +33,9 @@ mod wrong_arity;
 use functions::{Defined, functions};
 pub use load_error::LoadError;
 use mm_ast as ast;
+use mm_built::is_built;
 use mm_plain::Program;
 use name_table::{NameTable, path_table};
-use not_built::built_crate;
 use program::load_program;
 pub use rule::Rule;
 use std::alloc::Global;
@@ -70,6 +69,21 @@ fn load_crate(alloc: Global, krate: &ast::Crate) -> Result<Program, LoadError>
     Ok(load_program(alloc, &paths, &functions, krate)?)
 }
 
+/// The crate of a tree, where there is one alone and all of it is built.
+#[tactic(auto, unfolding(mm_built::specs::Built::built_crates))]
+fn built_crate(tree: &ast::Ast) -> Option<&ast::Crate>
+    ensures krate { IfSome result (λ krate. krate.now ≡ crate_of tree.now) }
+    ensures built { is_some result ≡ is_built tree.now }
+{
+    let [krate] = tree.crates.as_slice() else {
+        return None;
+    };
+    if !is_built(tree) {
+        return None;
+    }
+    Some(krate)
+}
+
 /// The program that a tree means, where all of it is built and it keeps the rules.
 ///
 /// # Errors
@@ -83,7 +97,7 @@ pub fn load(alloc: Global, tree: &ast::Ast) -> Result<Program, LoadError>
     ensures fault { (rule : rules.Rule) (line : ℕ) → result ≡ Err (errors.Rule rule line) → IsFirstFault tree.now rule line }
     ensures not_built { result ≡ Err errors.NotBuilt → IsBuilt tree.now → ⊥ }
 {
-    let Some(krate) = built_crate(tree.crates.as_slice()) else {
+    let Some(krate) = built_crate(tree) else {
         return Err(LoadError::NotBuilt);
     };
     load_crate(alloc, krate)

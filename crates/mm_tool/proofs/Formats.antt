@@ -10,7 +10,7 @@ use Rattle.mm_grammar.specs.Reading.{IsText}
 use Rattle.mm_load.specs.declared.rule.Rule.{Rule}
 use Rattle.mm_load.specs.declared.load_error.LoadError.{LoadError}
 use Rattle.mm_load.specs.declared.load_error.LoadError.TheVariants as errors
-use Rattle.mm_load.specs.Built.{IsBuilt}
+use Rattle.mm_built.specs.Built.{IsBuilt}
 use Rattle.mm_load.specs.Rules.{IsFirstFault}
 use Rattle.mm_shape.specs.Shapes.{kinds_of}
 use Rattle.mm_print.specs.Printing.{Spell}

@@ -17,7 +17,7 @@ use Rattle.mm_grammar.proofs.WrittenItems.{text_written}
 use Rattle.mm_load.specs.declared.load_error.LoadError.{LoadError}
 use Rattle.mm_load.specs.declared.load_error.LoadError.TheVariants as errors
 use Rattle.mm_load.specs.declared.rule.Rule.{Rule}
-use Rattle.mm_load.specs.Built.{IsBuilt}
+use Rattle.mm_built.specs.Built.{IsBuilt}
 use Rattle.mm_load.specs.Meaning.{IsProgram}
 use Rattle.mm_load.specs.Rules.{fails, IsFirstFault}
 use Rattle.mm_load.specs.WrittenItem.{crate_of}

@@ -15,7 +15,7 @@ use Rattle.mm_load.specs.declared.rule.Rule.{Rule}
 use Rattle.mm_load.specs.declared.rule.Rule.TheVariants as rules
 use Rattle.mm_load.specs.declared.load_error.LoadError.{LoadError}
 use Rattle.mm_load.specs.declared.load_error.LoadError.TheVariants as errors
-use Rattle.mm_load.specs.Built.{IsBuilt}
+use Rattle.mm_built.specs.Built.{IsBuilt}
 use Rattle.mm_load.specs.Meaning.{IsProgram}
 use Rattle.mm_load.specs.Rules.{IsFirstFault}
 use Rattle.mm_print.specs.Printing.{IsCanonical}

@@ -36,9 +36,8 @@ use Rattle.mm_ast.specs.declared.items.ItemForm.TheVariants as forms
 use Rattle.mm_ast.specs.declared.items.Signature.{Signature}
 use Rattle.mm_ast.specs.declared.types.Head.{Head}
 use Rattle.mm_ast.specs.declared.types.Head.TheVariants as heads
-use Rattle.mm_ast.specs.declared.types.Type as written
-use Rattle.mm_load.specs.WrittenItem.{item_fold}
-use Rattle.mm_load.specs.WrittenType.{written_fold}
+use Rattle.mm_ast.specs.declared.types.Type as types
+use Rattle.mm_definitions.specs.Trees.{type_fold, item_fold}
 
 -- ---- types
 
@@ -52,10 +51,10 @@ built_head (heads.Adt path) = false
 built_head _ = true
 
 -- the head, and the types below it
-unfoldable pub built_type : written.Type → Bool
-built_type = written_fold (λ line head below. built_head head && list_all (λ built. built) below)
+unfoldable pub built_type : types.«Type» → Bool
+built_type = type_fold (λ line head below. built_head head && list_all (λ built. built) below)
 
-unfoldable pub built_types : List written.Type → Bool
+unfoldable pub built_types : List types.«Type» → Bool
 built_types types = list_all built_type types
 
 -- ---- bodies
@@ -151,7 +150,7 @@ built_form (forms.Definition definition) = built_definition definition.form
 
 -- the item, and those in it
 unfoldable pub built_item : Item → Bool
-built_item = item_fold (λ line name form inside. built_form form && list_all (λ built. built) inside)
+built_item = item_fold (λ line form inside. built_form form && list_all (λ built. built) inside)
 
 -- there is one crate
 unfoldable pub built_crates : List Crate → Bool
@@ -159,5 +158,8 @@ built_crates (krate ∷ []) = list_all built_item krate.items
 built_crates _ = false
 
 -- all of the tree is built
+abbrev pub is_built : Ast → Bool
+is_built tree = built_crates tree.crates
+
 abbrev pub IsBuilt : Ast → Type 0
-IsBuilt tree = IsTrue (built_crates tree.crates)
+IsBuilt tree = IsTrue (is_built tree)

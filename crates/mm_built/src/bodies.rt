@@ -1,52 +1,10 @@
-//! Forms that are not built yet.
+//! Bodies of functions.
 ghost use Rattle.std.specs.List.{list_all};
-ghost use Rattle.std.specs.Option.{option_map_or};
-ghost use Rattle.std.specs.Prelude.{◌≡◌, true, is_some, IfSome};
-ghost use Rattle.mm_load.specs.WrittenItem.{first_crate};
-ghost use Rattle.mm_load.specs.Built.{built_head, built_type, built_types, built_step, built_projection, built_place, built_callee, built_operand, built_operands, built_rvalue, built_statement, built_called, built_call, built_end, built_block, built_body, built_bound, built_signature, built_function, built_definition, built_form, built_item, built_crates};
+ghost use Rattle.std.specs.Prelude.{◌≡◌};
+ghost use Rattle.mm_built.specs.Built.{built_step, built_projection, built_place, built_callee, built_operand, built_operands, built_rvalue, built_statement, built_called, built_call, built_end, built_block, built_body};
 
+use crate::types::built_types;
 use mm_ast as ast;
-
-fn built_head(head: &ast::Head) -> bool
-    ensures { result ≡ built_head head.now }
-{
-    match head {
-        ast::Head::Param(_)
-        | ast::Head::U64
-        | ast::Head::Bool
-        | ast::Head::Tuple
-        | ast::Head::Ref
-        | ast::Head::Boxed => true,
-        ast::Head::SelfType
-        | ast::Head::FnPtr
-        | ast::Head::FnItem(_)
-        | ast::Head::Closure(_)
-        | ast::Head::Dyn(_)
-        | ast::Head::Adt(_) => false,
-    }
-}
-
-/// The head, and the types below it.
-fn built_type(ty: &ast::Type) -> bool
-    ensures { result ≡ built_type ty.now }
-{
-    if !built_head(&ty.head) {
-        return false;
-    }
-    for child in ty.children.as_slice() {
-        if !built_type(child) {
-            return false;
-        }
-    }
-    true
-}
-
-#[tactic(auto, unfolding(crate::specs::Built::built_types))]
-fn built_types(types: &[ast::Type]) -> bool
-    ensures { result ≡ built_types types.now }
-{
-    types.iter().all(|ty| built_type(ty))
-}
 
 fn built_step(step: &ast::Step) -> bool
     ensures { result ≡ built_step step.now }
@@ -187,108 +145,8 @@ fn built_blocks(blocks: &[ast::Block]) -> bool
 }
 
 #[tactic(auto, unfolding(crate::specs::Built::built_body))]
-fn built_body(body: &ast::Body) -> bool
+pub fn built_body(body: &ast::Body) -> bool
     ensures { result ≡ built_body body.now }
 {
     built_types(body.lets.as_slice()) && built_blocks(body.blocks.as_slice())
-}
-
-fn built_bound(bound: &ast::Bound) -> bool
-    ensures { result ≡ built_bound bound.now.form }
-{
-    match &bound.form {
-        ast::BoundForm::Trait(_) | ast::BoundForm::Call => false,
-    }
-}
-
-fn built_result(ty: &Option<ast::Type>) -> bool
-    ensures { result ≡ option_map_or built_type ty.now true }
-{
-    match ty {
-        Some(ty) => built_type(ty),
-        None => true,
-    }
-}
-
-#[tactic(auto, unfolding(crate::specs::Built::built_signature))]
-fn built_signature(signature: &ast::Signature) -> bool
-    ensures { result ≡ built_signature signature.now }
-{
-    built_types(signature.params.as_slice()) && built_result(&signature.result)
-}
-
-fn built_bounds(bounds: &[ast::Bound]) -> bool
-    ensures { result ≡ list_all (λ bound. built_bound bound.form) bounds.now }
-{
-    bounds.iter().all(|bound| built_bound(bound))
-}
-
-#[tactic(auto, unfolding(crate::specs::Built::built_function))]
-fn built_function(function: &ast::Function) -> bool
-    ensures { result ≡ built_function function.now }
-{
-    !function.is_inline
-        && built_bounds(function.bounds.as_slice())
-        && built_signature(&function.signature)
-        && built_body(&function.body)
-}
-
-fn built_definition(form: &ast::DefinitionForm) -> bool
-    ensures { result ≡ built_definition form.now }
-{
-    match form {
-        ast::DefinitionForm::Function(function) => built_function(function),
-        ast::DefinitionForm::Closure(_)
-        | ast::DefinitionForm::Struct(_)
-        | ast::DefinitionForm::Enum(_)
-        | ast::DefinitionForm::Trait(_)
-        | ast::DefinitionForm::Static(_)
-        | ast::DefinitionForm::Const(_) => false,
-    }
-}
-
-fn built_form(form: &ast::ItemForm) -> bool
-    ensures { result ≡ built_form form.now }
-{
-    match form {
-        ast::ItemForm::Module(_) => true,
-        ast::ItemForm::Impl(_) => false,
-        ast::ItemForm::Definition(definition) => built_definition(&definition.get().form),
-    }
-}
-
-/// The item, and those in it.
-fn built_item(item: &ast::Item) -> bool
-    ensures { result ≡ built_item item.now }
-{
-    if !built_form(&item.form) {
-        return false;
-    }
-    for inner in item.items.as_slice() {
-        if !built_item(inner) {
-            return false;
-        }
-    }
-    true
-}
-
-fn built_items(items: &[ast::Item]) -> bool
-    ensures { result ≡ list_all built_item items.now }
-{
-    items.iter().all(|item| built_item(item))
-}
-
-/// The crate, where there is one alone and all of it is built.
-#[tactic(auto, unfolding(crate::specs::Built::built_crates))]
-pub fn built_crate(crates: &[ast::Crate]) -> Option<&ast::Crate>
-    ensures krate { IfSome result (λ krate. krate.now ≡ first_crate crates.now) }
-    ensures built { is_some result ≡ built_crates crates.now }
-{
-    let [krate] = crates else {
-        return None;
-    };
-    if !built_items(krate.items.as_slice()) {
-        return None;
-    }
-    Some(krate)
 }

@@ -7,11 +7,11 @@ use Rattle.mm_lex.specs.Lexemes.{LexemeKind, lexemes}
 use Rattle.mm_lex.specs.Tokens.{AreTokensOf}
 use Rattle.mm_ast.specs.declared.items.Ast.{Ast}
 use Rattle.mm_grammar.specs.Reading.{IsText}
-use Rattle.mm_load.specs.declared.rule.Rule.{Rule}
-use Rattle.mm_load.specs.declared.load_error.LoadError.{LoadError}
-use Rattle.mm_load.specs.declared.load_error.LoadError.TheVariants as errors
+use Rattle.mm_load_plain.specs.declared.rule.Rule.{Rule}
+use Rattle.mm_load_plain.specs.declared.load_error.LoadError.{LoadError}
+use Rattle.mm_load_plain.specs.declared.load_error.LoadError.TheVariants as errors
 use Rattle.mm_built.specs.Built.{IsBuilt}
-use Rattle.mm_load.specs.Rules.{IsFirstFault}
+use Rattle.mm_load_plain.specs.Rules.{IsFirstFault}
 use Rattle.mm_shape.specs.Shapes.{kinds_of}
 use Rattle.mm_print.specs.Printing.{Spell}
 use Rattle.mm_print.proofs.Back.{text_spells}

@@ -14,13 +14,13 @@ use Rattle.mm_grammar.specs.Faults.{Refuses}
 use Rattle.mm_grammar.specs.Reading.{IsText}
 use Rattle.mm_grammar.proofs.Outcomes.{one_tree, text_or_fault}
 use Rattle.mm_grammar.proofs.WrittenItems.{text_written}
-use Rattle.mm_load.specs.declared.load_error.LoadError.{LoadError}
-use Rattle.mm_load.specs.declared.load_error.LoadError.TheVariants as errors
-use Rattle.mm_load.specs.declared.rule.Rule.{Rule}
+use Rattle.mm_load_plain.specs.declared.load_error.LoadError.{LoadError}
+use Rattle.mm_load_plain.specs.declared.load_error.LoadError.TheVariants as errors
+use Rattle.mm_load_plain.specs.declared.rule.Rule.{Rule}
 use Rattle.mm_built.specs.Built.{IsBuilt}
-use Rattle.mm_load.specs.Meaning.{IsProgram}
-use Rattle.mm_load.specs.Rules.{fails, IsFirstFault}
-use Rattle.mm_load.specs.WrittenItem.{crate_of}
+use Rattle.mm_load_plain.specs.Meaning.{IsProgram}
+use Rattle.mm_load_plain.specs.Rules.{fails, IsFirstFault}
+use Rattle.mm_load_plain.specs.WrittenItem.{crate_of}
 use Rattle.mm_tool.specs.declared.text_refusal.TextRefusal.TheVariants.{BadText}
 use Rattle.mm_tool.specs.Refusals.{of_text, of_load}
 use Rattle.mm_tool.specs.Report.{Means}

@@ -10,9 +10,9 @@ use Rattle.mm_plain.specs.WellFormed.{IsWellFormed}
 use Rattle.mm_plain.specs.declared.program.Program.{Program}
 use Rattle.mm_collect.proofs.InstanceLemmas.{members_are}
 use Rattle.mm_names.specs.Names.{IsName}
-use Rattle.mm_load.proofs.ChainLemmas.{IsChain}
-use Rattle.mm_load.proofs.PathLemmas.{HavePaths, means_paths}
-use Rattle.mm_load.proofs.WellFormedLemmas.{means_well}
+use Rattle.mm_load_plain.proofs.ChainLemmas.{IsChain}
+use Rattle.mm_load_plain.proofs.PathLemmas.{HavePaths, means_paths}
+use Rattle.mm_load_plain.proofs.WellFormedLemmas.{means_well}
 use Rattle.mm_symbols.specs.ItemForms.{IsPathText, HasNames, IsItemIn}
 use Rattle.mm_symbols.proofs.InstanceItems.{instance_is_item}
 use Rattle.mm_tool.specs.Report.{Means}

@@ -14,10 +14,10 @@ use Rattle.mm_ast.specs.declared.items.Crate.{Crate}
 use Rattle.mm_grammar.specs.Faults.{StandsAt, rule_of, IsGrammarFault, Refuses}
 use Rattle.mm_grammar.specs.Reading.{IsText}
 use Rattle.mm_grammar.proofs.Outcomes.{one_tree, text_or_fault, one_first}
-use Rattle.mm_load.specs.declared.rule.Rule.{Rule}
-use Rattle.mm_load.specs.declared.rule.Rule.TheVariants as rules
-use Rattle.mm_load.specs.Rules.{fails, before, Kept, IsFirstIn, IsFirstFault}
-use Rattle.mm_load.specs.WrittenItem.{crate_of}
+use Rattle.mm_load_plain.specs.declared.rule.Rule.{Rule}
+use Rattle.mm_load_plain.specs.declared.rule.Rule.TheVariants as rules
+use Rattle.mm_load_plain.specs.Rules.{fails, before, Kept, IsFirstIn, IsFirstFault}
+use Rattle.mm_load_plain.specs.WrittenItem.{crate_of}
 use Rattle.mm_print.proofs.Canonicals.{one_canonical}
 use Rattle.mm_tool.specs.Formatting.{rule_name, TellsFault, IsPrinted, SaysBadCrate, SaysNotBuilt, IsTreeFormat, IsReadAs, IsUnlexed, IsUnparsed, IsFormat}
 use Rattle.mm_tool.proofs.Meanings.{none_first}

@@ -11,13 +11,13 @@ use Rattle.mm_lex.specs.Tokens.{AreTokensOf, IsFaultOf}
 use Rattle.mm_ast.specs.declared.items.Ast.{Ast}
 use Rattle.mm_grammar.specs.Reading.{IsText}
 use Rattle.mm_grammar.specs.Faults.{Refuses}
-use Rattle.mm_load.specs.declared.rule.Rule.{Rule}
-use Rattle.mm_load.specs.declared.rule.Rule.TheVariants as rules
-use Rattle.mm_load.specs.declared.load_error.LoadError.{LoadError}
-use Rattle.mm_load.specs.declared.load_error.LoadError.TheVariants as errors
+use Rattle.mm_load_plain.specs.declared.rule.Rule.{Rule}
+use Rattle.mm_load_plain.specs.declared.rule.Rule.TheVariants as rules
+use Rattle.mm_load_plain.specs.declared.load_error.LoadError.{LoadError}
+use Rattle.mm_load_plain.specs.declared.load_error.LoadError.TheVariants as errors
 use Rattle.mm_built.specs.Built.{IsBuilt}
-use Rattle.mm_load.specs.Meaning.{IsProgram}
-use Rattle.mm_load.specs.Rules.{IsFirstFault}
+use Rattle.mm_load_plain.specs.Meaning.{IsProgram}
+use Rattle.mm_load_plain.specs.Rules.{IsFirstFault}
 use Rattle.mm_print.specs.Printing.{IsCanonical}
 
 -- the name of a rule for tokens and for the grammar

@@ -28,7 +28,7 @@ use Rattle.mm_tool.specs.declared.words.Command.TheVariants as command
 use Rattle.mm_lex.specs.Lexemes.{lexemes}
 use Rattle.mm_lex.specs.Tokens.{AreTokensOf}
 use Rattle.mm_grammar.specs.Reading.{IsText}
-use Rattle.mm_load.specs.Meaning.{IsProgram}
+use Rattle.mm_load_plain.specs.Meaning.{IsProgram}
 use Rattle.mm_symbols.specs.Listing.{IsListing}
 use Rattle.mm_tool.specs.Observed.{obs_text, obs_status}
 use Rattle.mm_tool.specs.Formatting.{IsFormat}

@@ -8,7 +8,7 @@ use crate::text_refusal::TextRefusal;
 use mm_collect::collect;
 use mm_emit::emit_one;
 use mm_lex::lex;
-use mm_load::load;
+use mm_load_plain::load;
 use mm_objects::write_objects;
 use mm_parse::parse;
 use mm_plain::{Opts, Program};

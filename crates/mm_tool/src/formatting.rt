@@ -10,7 +10,7 @@ use crate::answer::Answer;
 use itoa::Buffer;
 use mm_ast::Ast;
 use mm_lex::{TextFault, TextRule, Token, lex};
-use mm_load::{LoadError, Rule, load};
+use mm_load_plain::{LoadError, Rule, load};
 use mm_parse::parse;
 use mm_print::print;
 use mm_terms::NoMemory;

@@ -1,5 +1,5 @@
 use mm_lex::TextFault;
-use mm_load::LoadError;
+use mm_load_plain::LoadError;
 
 /// Why a text gives no program.
 #[derive(Clone, Copy, PartialEq, Eq)]

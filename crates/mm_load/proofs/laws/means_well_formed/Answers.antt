@@ -1,5 +1,0 @@
-use Rattle.mm_load.proofs.WellFormedLemmas.{means_well}
-use Rattle.mm_load.proofs.laws.means_well_formed.Goals as goal
-
-pub returns : goal.returns
-returns c = means_well

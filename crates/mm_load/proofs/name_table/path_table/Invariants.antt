@@ -1,7 +1,0 @@
-use Rattle.std.proofs.Common.{◌≡◌, ℕ, List, map, take}
-use Rattle.mm_load.specs.Names.{look_up, index_of}
-use Rattle.mm_load.specs.Seen.{function_seen}
-use Rattle.mm_load.proofs.name_table.path_table.Given as goal
-
-abbrev pub invariant-loop-index : goal.invariant-loop-index
-invariant-loop-index l = (q : List ℕ) → look_up l.table q ≡ index_of (take l.index (map (λ d. d.path) (map function_seen l.functions))) q

@@ -1,8 +1,0 @@
-use Rattle.std.proofs.Common.{◌≡◌, map, take}
-use Rattle.mm_load.specs.Names.{look_up}
-use Rattle.mm_load.specs.Meaning.{function_of}
-use Rattle.mm_load.specs.Seen.{function_seen}
-use Rattle.mm_load.proofs.program.load_functions.Given as goal
-
-abbrev pub invariant-loop-function : goal.invariant-loop-function
-invariant-loop-function l = l.loaded ≡ map (function_of (look_up l.paths)) (map function_seen (take l.function-index l.functions))
